@@ -1,0 +1,193 @@
+-- What a manager keeps, and what it answers.
+use Rattle.std.specs.Prelude.{◌≡◌, ℕ, ◌+◌, ◌-◌, ◌<◌, ◌≤◌, ◌==◌, nat_lt, ◌&&◌, not, if◌then◌else◌, Bool, true, false, List, [], ◌∷◌, ◌++◌, length, slice_set, slice_index, slice_index_or, count_by, Option, Some, None, Result, Ok, Err, ℤ, pos}
+use Rattle.vch_base.specs.declared.key.Key.{Key}
+use Rattle.vch_base.specs.declared.key.Key.TheVariants as keys
+use Rattle.vch_base.specs.declared.value.Value.{Value}
+use Rattle.vch_base.specs.declared.value.Value.TheVariants as values
+use Rattle.vch_base.specs.Values.{is_default}
+use Rattle.vch_base.specs.Contents.{content_of}
+use Rattle.vch_base.specs.declared.flags.Flags.{Flags}
+use Rattle.vch_base.specs.declared.places.Live.{Live}
+use Rattle.vch_base.specs.declared.manager.Got.{Got}
+use Rattle.vch_base.specs.declared.manager.Got.TheVariants as got
+use Rattle.vch_base.specs.declared.manager.GetFault.{GetFault}
+use Rattle.vch_base.specs.declared.manager.GetFault.TheVariants as fault
+
+-- the key whose commands a manager answers, and the flags of the tasks 1, 2, 3 and so on; none: it knows every task
+pub record Rules : Type 0 where
+  pub row : Key
+  pub tasks : Option (List Flags)
+
+-- the live values by their handles, the free handles (the next first), a ledger for each task, and the releases asked for
+pub record Kept : Type 0 where
+  pub slots : List (Option Live)
+  pub free : List ℕ
+  pub ledgers : List ℕ
+  pub asked : ℕ
+  pub rules : Rules
+
+abbrev pub user_rules : Rules
+user_rules = record { row = keys.User; tasks = None }
+
+-- Values by their handles.
+
+abbrev pub live_at : List (Option Live) → ℕ → Option Live
+live_at slots h = slice_index_or slots h None
+
+abbrev pub value_of : Option Live → Option Value
+value_of None = None
+value_of (Some l) = Some l.value
+
+abbrev pub made_of : Option Live → ℕ
+made_of None = 0
+made_of (Some l) = l.made
+
+abbrev pub value_at : List (Option Live) → ℕ → Option Value
+value_at slots h = value_of (live_at slots h)
+
+abbrev pub made_at : List (Option Live) → ℕ → ℕ
+made_at slots h = made_of (live_at slots h)
+
+abbrev pub previous_of : List (Option Live) → Option ℕ → Option Value
+previous_of slots None = None
+previous_of slots (Some h) = value_at slots h
+
+abbrev pub MadeBelow : ℕ → List (Option Live) → Type 0
+MadeBelow n slots = (h : ℕ) → made_at slots h < n
+
+abbrev pub IsAbsent : List (Option Live) → Value → Type 0
+IsAbsent slots x = (h : ℕ) → value_at slots h ≡ Some x → ⊥
+
+abbrev pub is_user : Value → Bool
+is_user (values.User bytes) = true
+is_user x = false
+
+abbrev pub AllUser : List (Option Live) → Type 0
+AllUser slots = (h : ℕ) (x : Value) → value_at slots h ≡ Some x → is_user x ≡ true
+
+-- The rules.
+
+abbrev pub no_flags : Flags
+no_flags = record { donor = false; receiver = false }
+
+abbrev pub knows : Option (List Flags) → ℕ → Type 0
+knows None t = Unit {0}
+knows (Some flags) t = (0 < t) × (t ≤ length flags)
+
+abbrev pub Knows : Rules → ℕ → Type 0
+Knows rules t = knows rules.tasks t
+
+abbrev pub flags_in : Option (List Flags) → ℕ → Flags
+flags_in None t = no_flags
+flags_in (Some flags) t = slice_index_or flags (t - 1) no_flags
+
+-- what SEND_PREPROCESS makes of a value where the task s sends it
+abbrev pub sent : ℕ → Value → Value
+sent s (values.User bytes) = values.User bytes
+sent s (values.Chain list) = values.Chain list
+sent s values.Default = values.Task s
+sent s (values.Task t) = values.Task t
+sent s (values.Account holder merchant) = values.Task holder
+
+-- what AUTO_REDEEM makes of a value where the task r, a receiver of importance or not, receives it
+abbrev pub received : Bool → ℕ → Value → Value
+received receiver r (values.User bytes) = values.User bytes
+received receiver r (values.Chain list) =
+    if receiver && (nat_lt (length list) 8 && not (slice_index list (length list - 1) == r)) then values.Chain (list ++ r ∷ []) else values.Chain list
+received receiver r values.Default = values.Default
+received receiver r (values.Task holder) = if holder == r then values.Task holder else values.Account holder r
+received receiver r (values.Account holder merchant) = values.Account holder merchant
+
+abbrev pub mapped : (Value → Value) → Option Value → Option Value
+mapped f None = None
+mapped f (Some x) = Some (f x)
+
+-- a command without content
+abbrev pub bare : List ℕ → Option Value → Result (Option Value) ℤ
+bare content x = if length content == 0 then Ok x else Err (pos 4)
+
+abbrev pub own_answer : Key → Option (List Flags) → ℕ → ℕ → Option Value → List ℕ → Result (Option Value) ℤ
+own_answer keys.User tasks by command previous content = if command == 211 then Ok (Some (values.User content)) else Err (pos 4)
+own_answer keys.Importance tasks by command previous content =
+    if command == 200 then bare content (Some (values.Chain (by ∷ [])))
+    else if command == 4 then bare content (mapped (received (flags_in tasks by).receiver by) previous)
+    else Err (pos 4)
+own_answer keys.Bank tasks by command previous content =
+    if command == 610 then bare content (Some values.Default)
+    else if command == 4 then bare content (mapped (received (flags_in tasks by).receiver by) previous)
+    else if command == 5 then bare content (mapped (sent by) previous)
+    else Err (pos 4)
+
+-- a value, none, or code 4
+abbrev pub answer : Rules → ℕ → ℕ → Option Value → List ℕ → Result (Option Value) ℤ
+answer rules by command previous content = if command == 10 then bare content previous else own_answer rules.row rules.tasks by command previous content
+
+-- The calls.
+
+abbrev pub more_made : Option Live → Option Live
+more_made None = None
+more_made (Some l) = Some (record l { made = l.made + 1 })
+
+abbrev pub new_live : Value → Live
+new_live x = record { value = x; made = 1; due = 0 }
+
+-- the first free handle, or the next new one
+abbrev pub next_handle : List ℕ → ℕ → ℕ
+next_handle [] used = used
+next_handle (h ∷ free) used = h
+
+abbrev pub slots_with : List (Option Live) → List ℕ → Live → List (Option Live)
+slots_with slots [] l = slots ++ Some l ∷ []
+slots_with slots (h ∷ free) l = slice_set slots h (Some l)
+
+abbrev pub free_after : List ℕ → List ℕ
+free_after [] = []
+free_after (h ∷ free) = free
+
+-- a value handed out: again at its handle, or at a new one
+abbrev pub Hands : List (Option Live) → List ℕ → Value → ℕ → Bool → List (Option Live) → List ℕ → Type 0
+Hands slots free x h false slots2 free2 = (value_at slots h ≡ Some x) × (slots2 ≡ slice_set slots h (more_made (live_at slots h))) × (free2 ≡ free)
+Hands slots free x h true slots2 free2 = IsAbsent slots x × (h ≡ next_handle free (length slots)) × (slots2 ≡ slots_with slots free (new_live x)) × (free2 ≡ free_after free)
+
+abbrev pub Handed : List (Option Live) → List ℕ → Value → Result Got GetFault → List (Option Live) → List ℕ → Type 0
+Handed slots free x (Ok (got.Value h fresh persist)) slots2 free2 = (persist ≡ is_default x) × Hands slots free x h fresh slots2 free2
+Handed slots free x (Err fault.NoMemory) slots2 free2 = (slots2 ≡ slots) × (free2 ≡ free)
+Handed slots free x result slots2 free2 = ⊥
+
+-- an answer, and what a call of it leaves; want of memory may stand in for a value alone
+abbrev pub Gets : Kept → Result (Option Value) ℤ → Result Got GetFault → Kept → Type 0
+Gets old (Err code) (Err (fault.Refused c)) new = (c.number ≡ code) × (new ≡ old)
+Gets old (Err code) result new = ⊥
+Gets old (Ok None) (Ok got.Nothing) new = new ≡ old
+Gets old (Ok None) result new = ⊥
+Gets old (Ok (Some x)) result new = Handed old.slots old.free x result new.slots new.free × (new ≡ record old { slots = new.slots; free = new.free })
+
+abbrev pub credited : Option Live → List ℕ → List ℕ
+credited None ledgers = ledgers
+credited (Some l) ledgers =
+    elim l.value [ values.Account holder merchant ↦ slice_set ledgers (holder - 1) (slice_index ledgers (holder - 1) + l.due) | _ ↦ ledgers ]
+
+abbrev pub after_release : Kept → ℕ → Bool → Kept
+after_release old h true = record old { slots = slice_set old.slots h None; free = h ∷ old.free; ledgers = credited (live_at old.slots h) old.ledgers; asked = old.asked + 1 }
+after_release old h false = record old { asked = old.asked + 1 }
+
+abbrev pub content_at : List (Option Live) → ℕ → List ℕ
+content_at slots h = content_of (value_at slots h)
+
+-- The laws.
+
+abbrev pub count : ℕ → List ℕ → ℕ
+count h free = count_by (λ x. x == h) free
+
+abbrev pub vacancy : Option Live → ℕ
+vacancy None = 1
+vacancy (Some l) = 0
+
+pub record Lawful (k : Kept) : Type 0 where
+  -- two live handles with one value are equal
+  pub one_handle : (i j : ℕ) (x : Value) → value_at k.slots i ≡ Some x → value_at k.slots j ≡ Some x → i ≡ j
+  -- live handles and free handles are the handles ever used, each once
+  pub once : (h : ℕ) → h < length k.slots → count h k.free ≡ vacancy (live_at k.slots h)
+  pub within : (h : ℕ) → length k.slots ≤ h → count h k.free ≡ 0
+  -- Default is live at handle 0 of a manager of the bank's row
+  pub default : k.rules.row ≡ keys.Bank → value_at k.slots 0 ≡ Some values.Default
