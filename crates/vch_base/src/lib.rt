@@ -28,4 +28,4 @@ pub use memory::{MemSink, MemSource};
 pub use places::{Live, Places};
 pub use steady::{SteadySink, SteadySource};
 pub use stream::{Sink, Source};
-pub use value::Value;
+pub use value::{Value, push_word};
