@@ -1,0 +1,3 @@
+pub mod ItemLines
+pub mod Runs
+pub mod Begun
