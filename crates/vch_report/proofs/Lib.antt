@@ -1,3 +1,5 @@
+pub mod Belows
+pub mod Chains
 pub mod ItemLines
 pub mod Runs
 pub mod Begun

@@ -11,7 +11,8 @@ use Rattle.vch_report.specs.declared.draft.Place.TheVariants as places
 use Rattle.vch_report.specs.WellFormed.{IsNumber, IsEntry, IsTotal}
 use Rattle.vch_report.specs.Items.{item_text}
 use Rattle.vch_report.specs.Lines.{item_of}
-use Rattle.vch_report.specs.Reading.{Read, nothing, with_item, with_total, step_of, ◌>>=◌}
+use Rattle.vch_report.specs.Reading.{Read, nothing, with_item, with_total, step_of}
+use Rattle.vch_text.specs.Reading.{◌>>=◌}
 use Rattle.vch_report.proofs.ItemLines.{IsItem, item_told, item_again}
 
 -- ---- the items of a report

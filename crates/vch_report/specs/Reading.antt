@@ -13,12 +13,8 @@ use Rattle.vch_report.specs.declared.fault.Stop.{Stop}
 use Rattle.vch_report.specs.declared.fault.Stop.TheVariants as stops
 use Rattle.vch_report.specs.declared.item.Item.{Item}
 use Rattle.vch_report.specs.declared.item.Item.TheVariants as items
+use Rattle.vch_text.specs.Reading.{◌>>=◌}
 use Rattle.vch_report.specs.Lines.{item_of}
-
-infixl 10 ◌>>=◌
-abbrev pub ◌>>=◌ : {A B : Type 0} → Option A → (A → Option B) → Option B
-(Some x) >>= f = f x
-None >>= f = None
 
 -- what was read so far, and which lines may stand next
 pub record Read : Type 0 where

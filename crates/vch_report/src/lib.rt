@@ -6,7 +6,11 @@
 mod draft;
 mod fault;
 mod item;
+mod lines;
+mod numerals;
+mod replies;
 mod report;
+mod values;
 
 pub use fault::ReportFault;
 pub use report::Report;
