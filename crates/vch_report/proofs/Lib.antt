@@ -1,4 +1,9 @@
 pub mod Belows
+pub mod Lower
+pub mod LineWords
+pub mod ChainWords
+pub mod MadeLines
+pub mod ReplyLines
 pub mod Chains
 pub mod ItemLines
 pub mod Runs
