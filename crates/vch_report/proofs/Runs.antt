@@ -161,8 +161,8 @@ unfolding step_of
 step_told d e l g s =
     let b = bind_some (item_of l) (λ i. with_item d.place d i) e s in
     let t = item_told l b.0 b.1 in
-    let w = with_told d.place d b.0 e refl g t.0 b.2 in
-    record { good = w.good; lines = ap item_lines w.items ∙ lines_append (items_read d) (b.0 ∷ []) ∙ ap (λ x. item_lines (items_read d) ++ x ∷ []) (sym t.1) }
+    let w = with_told d.place d b.0 e refl g t.good b.2 in
+    record { good = w.good; lines = ap item_lines w.items ∙ lines_append (items_read d) (b.0 ∷ []) ∙ ap (λ x. item_lines (items_read d) ++ x ∷ []) (sym t.text) }
 
 pub step_again : (d : Read) (i : Item) → IsItem i → step_of d (item_text i) ≡ with_item d.place d i
 unfolding step_of
