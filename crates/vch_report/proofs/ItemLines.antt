@@ -10,7 +10,7 @@ use Rattle.vch_text.specs.Words.{is_word, front_of, end_of}
 use Rattle.vch_text.proofs.Splits.{front_whole}
 use Rattle.vch_text.proofs.Told.{Told, told_bind, told_test, told_map, word_true}
 use Rattle.vch_text.proofs.WordsBack.{Follows, front_again, end_told, end_again}
-use Rattle.vch_text.proofs.Plain.{above, above_plain, plain_word}
+use Rattle.vch_text.proofs.Plain.{above, above_plain, plain_word, IsLow, low_append}
 use Rattle.vch_report.specs.declared.item.Item.{Item}
 use Rattle.vch_report.specs.declared.item.Item.TheVariants as items
 use Rattle.vch_report.specs.Numerals.{below_at, ordinal_at, after}
@@ -19,9 +19,9 @@ use Rattle.vch_report.specs.Replies.{call_of}
 use Rattle.vch_report.specs.WellFormed.{IsNumber, IsEntry, IsTotal}
 use Rattle.vch_report.specs.Items.{item_text}
 use Rattle.vch_report.specs.Lines.{released_of, release_of, phase_of, title_of, last_of, total_of, counts_of, call_item, made_item, small_item, item_by, item_of}
-use Rattle.vch_report.proofs.LineWords.{said, num, no_more, a_space, BelowAt, below_at_told, below_at_again, OrdinalAt, ordinal_at_told, ordinal_at_again, after_told, after_again}
+use Rattle.vch_report.proofs.LineWords.{said, num, no_more, a_space, low_said, low_word, low_num, BelowAt, below_at_told, below_at_again, OrdinalAt, ordinal_at_told, ordinal_at_again, after_told, after_again}
 use Rattle.vch_report.proofs.MadeLines.{Made_at, made_told, MadeLine, made_again}
-use Rattle.vch_report.proofs.ReplyLines.{Call_at, call_told, call_rest, call_text, call_again}
+use Rattle.vch_report.proofs.ReplyLines.{Call_at, call_told, call_rest, call_text, call_again, call_low}
 
 abbrev pub IsItem : Item → Type 0
 IsItem items.Title = Unit {0}
@@ -209,3 +209,32 @@ item_again (items.Step entries.Phase) h = phase_again
 item_again (items.Task t x) h = rw (total_line t x) (total_again t x h.0 h.1)
 item_again (items.Counts v w) h = rw (counts_line v w) (counts_again v w h.0 h.1)
 item_again items.End h = last_again
+
+-- ---- no line feed in a line
+
+begun_low : (w rest : List ℕ) → above w ≡ true → IsLow rest → IsLow (w ++ rest)
+begun_low w rest h l = low_append w rest (above_plain w h) l
+
+pub item_low : (i : Item) → IsItem i → IsLow (item_text i)
+item_low items.Title h = begun_low (codes "report") (32 ∷ codes "1") refl (low_word (codes "1") (above_plain (codes "1") refl))
+item_low (items.Step (entries.Call t n v r)) h = subst (λ (l : List ℕ). IsLow l) (sym (call_text t n v r)) (begun_low (codes "call") (call_rest t n v r) refl (call_low t n v r h))
+item_low (items.Step (entries.Made k x)) h = let m = made_again k x h in subst (λ (l : List ℕ). IsLow l) (sym m.text) (begun_low (codes "made") (32 ∷ m.rest) refl m.low)
+item_low (items.Step (entries.Released e)) h = subst (λ (l : List ℕ). IsLow l) (sym (released_line e)) (begun_low (codes "released") (num e []) refl (low_num e [] (omega (arith, h.1)) tt))
+item_low (items.Step entries.Phase) h = begun_low (codes "phase") [] refl tt
+item_low (items.Task t x) h =
+    let f = num x.out [] in
+    let e = said (codes "out") f in
+    let d = num x.held e in
+    let c = said (codes "held") d in
+    let b = num x.ledger c in
+    let a = said (codes "ledger") b in
+    let low_e = low_said (codes "out") f (above_plain (codes "out") refl) (low_num x.out [] (omega (arith, h.1.2)) tt) in
+    let low_c = low_said (codes "held") d (above_plain (codes "held") refl) (low_num x.held e (omega (arith, h.1.1)) low_e) in
+    let low_a = low_said (codes "ledger") b (above_plain (codes "ledger") refl) (low_num x.ledger c (omega (arith, h.1.0)) low_c) in
+    subst (λ (l : List ℕ). IsLow l) (sym (total_line t x)) (begun_low (codes "task") (num t a) refl (low_num t a (omega (arith, h.0.1)) low_a))
+item_low (items.Counts v w) h =
+    let b = num w [] in
+    let a = said (codes "values") b in
+    let low_a = low_said (codes "values") b (above_plain (codes "values") refl) (low_num w [] (omega (arith, h.1)) tt) in
+    subst (λ (l : List ℕ). IsLow l) (sym (counts_line v w)) (begun_low (codes "vouchers") (num v a) refl (low_num v a (omega (arith, h.0)) low_a))
+item_low items.End h = begun_low (codes "end") [] refl tt

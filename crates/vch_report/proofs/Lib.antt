@@ -8,3 +8,4 @@ pub mod Chains
 pub mod ItemLines
 pub mod Runs
 pub mod Begun
+pub mod Wholes

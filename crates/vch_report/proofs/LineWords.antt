@@ -14,7 +14,7 @@ use Rattle.vch_text.proofs.Fronts.{front_sep, front_none}
 use Rattle.vch_text.proofs.Told.{Told, told_bind, told_test, word_true, word_same}
 use Rattle.vch_text.proofs.WordsBack.{Follows, word_told, word_again, end_told, end_again}
 use Rattle.vch_text.proofs.Hexes.{hex_told, hex_again}
-use Rattle.vch_text.proofs.Plain.{IsPlain, plain_word, above, above_plain, decimal_plain, hex_plain, hex_spelled}
+use Rattle.vch_text.proofs.Plain.{IsPlain, plain_word, above, above_plain, decimal_plain, hex_plain, hex_spelled, IsLow, low_append}
 use Rattle.vch_report.specs.Numerals.{below, below_at, ordinal, ordinal_at, after, is_lower, bytes_at}
 use Rattle.vch_report.specs.WellFormed.{IsNumber}
 use Rattle.vch_report.proofs.Belows.{IsBelow, below_told, below_again, IsOrdinal, ordinal_told, ordinal_again}
@@ -39,6 +39,17 @@ begins w more h = record { parts = refl; word = plain_word w h }
 
 pub said_again : (w more : List ℕ) → IsPlain w → Follows more → word_at (said w more) ≡ Some (w, more)
 said_again w more h f = word_again (said w more) w more (begins w more h) f
+
+-- ---- no line feed in a line
+
+pub low_said : (w more : List ℕ) → IsPlain w → IsLow more → IsLow (said w more)
+low_said w more h l = (omega arith, low_append w more h l)
+
+pub low_word : (w : List ℕ) → IsPlain w → IsLow (32 ∷ w)
+low_word w h = subst (λ (l : List ℕ). IsLow (32 ∷ l)) (append-nil w) (low_said w [] h tt)
+
+pub low_num : (n : ℕ) (more : List ℕ) → n < 10 ^ 64 → IsLow more → IsLow (num n more)
+low_num n more lt l = low_said (decimal n) more (decimal_plain n lt) l
 
 -- ---- numbers
 

@@ -17,12 +17,12 @@ use Rattle.vch_text.specs.Reading.{◌>>=◌}
 use Rattle.vch_text.specs.Words.{is_word, word_at, end_of}
 use Rattle.vch_text.proofs.Told.{Told, told_bind, told_test, told_map, word_true, word_same}
 use Rattle.vch_text.proofs.WordsBack.{word_told, end_told, end_again}
-use Rattle.vch_text.proofs.Plain.{above_plain}
+use Rattle.vch_text.proofs.Plain.{above_plain, hex_plain, IsLow}
 use Rattle.vch_model.specs.Grammar.{Begins}
 use Rattle.vch_report.specs.Numerals.{ordinal_at, after, bytes_at}
 use Rattle.vch_report.specs.Values.{chain_of, user_of, list_of, task_of, account_of, bank_of, made_of}
 use Rattle.vch_report.specs.WellFormed.{IsNumber, IsRanged, IsEntry}
-use Rattle.vch_report.proofs.LineWords.{said, num, no_more, a_space, said_again, OrdinalAt, ordinal_at_told, ordinal_at_again, after_told, after_again, BytesAt, bytes_at_told, bytes_at_again}
+use Rattle.vch_report.proofs.LineWords.{said, num, no_more, a_space, said_again, low_said, low_word, low_num, OrdinalAt, ordinal_at_told, ordinal_at_again, after_told, after_again, BytesAt, bytes_at_told, bytes_at_again}
 use Rattle.vch_report.proofs.ChainWords.{chain_text, IsChain, ChainAt, chain_told, chain_again, chain_plain}
 
 -- ---- texts
@@ -170,15 +170,23 @@ pub record MadeLine (k : ℕ) (x : Value) : Type 0 where
   pub rest : List ℕ
   pub text : entry_text (entries.Made k x) ≡ codes "made" ++ (32 ∷ rest)
   pub read : made_of (32 ∷ rest) ≡ Some (entries.Made k x)
+  pub low : IsLow (32 ∷ rest)
 
-line_at : (k n : ℕ) (x : Value) → k ≡ n → n < 10 → made_of (keyed n x) ≡ Some (entries.Made n x) → MadeLine k x
-line_at k n x e lt h = subst (λ (m : ℕ). MadeLine m x) (sym e) (record { rest = (48 + n) ∷ value_text x; text = made_text n x lt; read = h })
+value_low : (x : Value) → IsRanged x → IsLow (value_text x)
+value_low (values.User bytes) h = low_said (codes "user") (32 ∷ hex_of bytes) (above_plain (codes "user") refl) (low_word (hex_of bytes) (hex_plain bytes h))
+value_low (values.Chain list) h = low_said (codes "list") (32 ∷ chain_text list) (above_plain (codes "list") refl) (low_word (chain_text list) (chain_plain list h))
+value_low values.Default h = absurd h
+value_low (values.Task t) h = subst (λ (l : List ℕ). IsLow l) (sym (task_text t)) (low_said (codes "task") (num t []) (above_plain (codes "task") refl) (low_num t [] (omega (arith, h.1)) tt))
+value_low (values.Account t m) h = subst (λ (l : List ℕ). IsLow l) (sym (account_text t m)) (low_said (codes "account") (num t (num m [])) (above_plain (codes "account") refl) (low_num t (num m []) (omega (arith, h.0.1)) (low_num m [] (omega (arith, h.1.1)) tt)))
+
+line_at : (k n : ℕ) (x : Value) → k ≡ n → n < 10 → IsRanged x → made_of (keyed n x) ≡ Some (entries.Made n x) → MadeLine k x
+line_at k n x e lt g h = subst (λ (m : ℕ). MadeLine m x) (sym e) (record { rest = (48 + n) ∷ value_text x; text = made_text n x lt; read = h; low = (omega arith, (omega arith, value_low x g)) })
 
 pub made_again : (k : ℕ) (x : Value) → IsEntry (entries.Made k x) → MadeLine k x
-made_again k (values.User bytes) h = line_at k 7 (values.User bytes) (same k 7 (user_key (eqb k 2) (eqb k 3) (eqb k 7) bytes h.0)) (omega arith) (user_again bytes h.1)
+made_again k (values.User bytes) h = line_at k 7 (values.User bytes) (same k 7 (user_key (eqb k 2) (eqb k 3) (eqb k 7) bytes h.0)) (omega arith) h.1 (user_again bytes h.1)
 made_again k (values.Chain list) h =
     let b = list_key (eqb k 2) (eqb k 3) (eqb k 7) list h.0 in
-    line_at k 2 (values.Chain list) (same k 2 b.0) (omega arith) (list_again list (record { some = b.1; few = b.2; numbers = h.1 }))
+    line_at k 2 (values.Chain list) (same k 2 b.0) (omega arith) h.1 (list_again list (record { some = b.1; few = b.2; numbers = h.1 }))
 made_again k values.Default h = absurd h.1
-made_again k (values.Task t) h = line_at k 3 (values.Task t) (same k 3 (task_key (eqb k 2) (eqb k 3) (eqb k 7) t h.0)) (omega arith) (task_again t h.1)
-made_again k (values.Account t m) h = line_at k 3 (values.Account t m) (same k 3 (account_key (eqb k 2) (eqb k 3) (eqb k 7) t m h.0)) (omega arith) (account_again t m h.1.0 h.1.1)
+made_again k (values.Task t) h = line_at k 3 (values.Task t) (same k 3 (task_key (eqb k 2) (eqb k 3) (eqb k 7) t h.0)) (omega arith) h.1 (task_again t h.1)
+made_again k (values.Account t m) h = line_at k 3 (values.Account t m) (same k 3 (account_key (eqb k 2) (eqb k 3) (eqb k 7) t m h.0)) (omega arith) h.1 (account_again t m h.1.0 h.1.1)

@@ -17,12 +17,12 @@ use Rattle.vch_text.specs.Reading.{◌>>=◌}
 use Rattle.vch_text.specs.Words.{is_word, word_at, end_of}
 use Rattle.vch_text.proofs.Told.{Told, told_bind, told_test, told_map, both, word_true, word_same}
 use Rattle.vch_text.proofs.WordsBack.{Follows, word_told, end_told, end_again}
-use Rattle.vch_text.proofs.Plain.{above, above_plain}
+use Rattle.vch_text.proofs.Plain.{above, above_plain, hex_plain, IsLow}
 use Rattle.vch_text.proofs.Decimals.{numeral_decimal}
 use Rattle.vch_report.specs.Numerals.{below_at, ordinal_at, bytes_at}
 use Rattle.vch_report.specs.Replies.{verb_of, code_of, coded, created_of, done_of, content_of, mark_of, recipe_of, received_of, ledger_of, assertions_of, live_of, answer_of, refused_of, reply_of, called_of, call_of}
 use Rattle.vch_report.specs.WellFormed.{IsNumber, refusals, IsOneOf, IsRefusal, IsSilent, IsReply, IsEntry}
-use Rattle.vch_report.proofs.LineWords.{said, num, no_more, a_space, said_again, BelowAt, below_at_told, below_at_again, OrdinalAt, ordinal_at_told, ordinal_at_again, BytesAt, bytes_at_told, bytes_at_again}
+use Rattle.vch_report.proofs.LineWords.{said, num, no_more, a_space, said_again, low_said, low_word, low_num, BelowAt, below_at_told, below_at_again, OrdinalAt, ordinal_at_told, ordinal_at_again, BytesAt, bytes_at_told, bytes_at_again}
 
 -- ---- words and codes
 
@@ -413,6 +413,25 @@ reply_again v (replies.Live a b) h = rw h.0 (zero_again words.Live (num a (num b
 reply_again v (replies.Refused c) h =
     let w = refusal_word c.number h in
     subst (λ (l : List ℕ). reply_of v (32 ∷ l) ≡ Some (replies.Refused c)) w.1.word (code_again v w.0 c.number w.1)
+
+-- ---- no line feed in a line
+
+reply_low : (v : Word) (r : Reply) → IsReply v r → IsLow (32 ∷ reply_text r)
+reply_low v (replies.Created n) h = subst (λ (l : List ℕ). IsLow (32 ∷ l)) (one_text n) (omega arith, (omega arith, low_num n [] (omega (arith, h.1)) tt))
+reply_low v replies.Done h = (omega arith, (omega arith, tt))
+reply_low v (replies.Content b) h = (omega arith, (omega arith, low_word (hex_of b) (hex_plain b h.1)))
+reply_low v (replies.Recipe true b) h = (omega arith, (omega arith, low_said (codes "whole") (32 ∷ hex_of b) (above_plain (codes "whole") refl) (low_word (hex_of b) (hex_plain b h.1))))
+reply_low v (replies.Recipe false b) h = (omega arith, (omega arith, low_said (codes "part") (32 ∷ hex_of b) (above_plain (codes "part") refl) (low_word (hex_of b) (hex_plain b h.1))))
+reply_low v (replies.Received s i n) h = subst (λ (l : List ℕ). IsLow (32 ∷ l)) (received_text s i n) (omega arith, (omega arith, low_num s (num i (num n [])) (omega (arith, h.1)) (low_num i (num n []) (omega (arith, h.2)) (low_num n [] (omega (arith, h.3)) tt))))
+reply_low v (replies.Ledger n) h = subst (λ (l : List ℕ). IsLow (32 ∷ l)) (one_text n) (omega arith, (omega arith, low_num n [] (omega (arith, h.1)) tt))
+reply_low v (replies.Assertions a b) h = subst (λ (l : List ℕ). IsLow (32 ∷ l)) (two_text a b) (omega arith, (omega arith, low_num a (num b []) (omega (arith, h.1)) (low_num b [] (omega (arith, h.2)) tt)))
+reply_low v (replies.Live a b) h = subst (λ (l : List ℕ). IsLow (32 ∷ l)) (two_text a b) (omega arith, (omega arith, low_num a (num b []) (omega (arith, h.1)) (low_num b [] (omega (arith, h.2)) tt)))
+reply_low v (replies.Refused c) h = let w = refusal_word c.number h in subst (λ (l : List ℕ). IsLow (32 ∷ l)) w.1.word (low_word w.0 (above_plain w.0 w.1.plain))
+
+pub call_low : (t n : ℕ) (v : Word) (r : Reply) → IsEntry (entries.Call t n v r) → IsLow (call_rest t n v r)
+call_low t n v r h =
+    low_num t (num n (said (word_text v) (32 ∷ reply_text r))) (omega (arith, h.0.1)) (low_num n (said (word_text v) (32 ∷ reply_text r)) (omega (arith, h.1.1))
+    (low_said (word_text v) (32 ∷ reply_text r) (above_plain (word_text v) (verb_plain v)) (reply_low v r h.2)))
 
 pub call_again : (t n : ℕ) (v : Word) (r : Reply) → IsEntry (entries.Call t n v r) → call_of (call_rest t n v r) ≡ Some (entries.Call t n v r)
 unfolding call_of called_of

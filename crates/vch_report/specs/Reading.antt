@@ -39,10 +39,13 @@ whole r = record { place = places.Done; entries = r.history.entries; totals = r.
 abbrev pub with_total : Read → ℕ → Total → Option Read
 with_total d t total = if t == length d.totals + 1 then Some (record d { place = places.Totals; totals = d.totals ++ total ∷ [] }) else None
 
+abbrev pub with_entry : Read → Entry → Option Read
+with_entry d entry = Some (record d { entries = d.entries ++ entry ∷ [] })
+
 -- what was read with one item more, where that may stand at this place
 abbrev pub with_item : Place → Read → Item → Option Read
 with_item places.Title d items.Title = Some (record d { place = places.Entries })
-with_item places.Entries d (items.Step entry) = Some (record d { entries = d.entries ++ entry ∷ [] })
+with_item places.Entries d (items.Step entry) = with_entry d entry
 with_item places.Entries d (items.Task t total) = with_total d t total
 with_item places.Totals d (items.Task t total) = with_total d t total
 with_item places.Totals d (items.Counts vouchers values) = Some (record d { place = places.End; vouchers = vouchers; values = values })

@@ -6,12 +6,18 @@
 mod draft;
 mod fault;
 mod item;
+mod laws;
 mod lines;
 mod numerals;
+mod reader;
 mod replies;
 mod report;
 mod values;
+mod writer;
 
 pub use fault::ReportFault;
+pub use laws::{one_answer, one_text};
+pub use reader::read;
 pub use report::Report;
 pub use vch_model::{Total, TotalList};
+pub use writer::write;
