@@ -9,3 +9,4 @@ pub mod ItemLines
 pub mod Runs
 pub mod Begun
 pub mod Wholes
+pub mod Loops

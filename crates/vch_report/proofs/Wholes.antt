@@ -23,11 +23,11 @@ abbrev pub goes_on : ℕ → List (List ℕ) → List ℕ → Option Read → Re
 goes_on n lines rest (Some e) = read_lines (n + 1) e lines rest
 goes_on n lines rest None = Err n
 
-lines_more : (n : ℕ) (d : Read) (l : List ℕ) (lines : List (List ℕ)) (rest : List ℕ) → read_lines n d (l ∷ lines) rest ≡ goes_on n lines rest (step_of d l)
+pub lines_more : (n : ℕ) (d : Read) (l : List ℕ) (lines : List (List ℕ)) (rest : List ℕ) → read_lines n d (l ∷ lines) rest ≡ goes_on n lines rest (step_of d l)
 unfolding read_lines
 lines_more n d l lines rest = refl
 
-lines_none : (n : ℕ) (d : Read) (rest : List ℕ) → read_lines n d [] rest ≡ finish n d rest
+pub lines_none : (n : ℕ) (d : Read) (rest : List ℕ) → read_lines n d [] rest ≡ finish n d rest
 unfolding read_lines
 lines_none n d rest = refl
 

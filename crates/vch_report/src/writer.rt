@@ -79,9 +79,10 @@ fn push_reply(alloc: Global, out: &mut Vec<u8>, reply: &Reply) -> Result<(), NoM
 fn push_list(out: &mut Vec<u8>, list: &Chain) -> Result<(), NoMemory>
     ensures { OnOk result (out.new.items ≡ out.old.items ++ join_with_byte 44 (map decimal list.now)) }
 {
-    push_number(out, list.first())?;
-    for i in 1..list.len() {
-        push_text(out, b",")?;
+    for i in 0..list.len() {
+        if i > 0 {
+            push_text(out, b",")?;
+        }
         push_number(out, list.at(i))?;
     }
     Ok(())
