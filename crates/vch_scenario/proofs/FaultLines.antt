@@ -262,18 +262,37 @@ unfolding read_of
 found_by text (Ok sc) h = answer_lead (split_of text).0 1 nothing (split_of text).1 sc refl h
 found_by text (Err e) h = tt
 
-pub only_by : (text : List ℕ) (r : Result Scenario ScenarioFault) (sc : Scenario) → Reads r (read_of text) → Read.IsRead text sc → Reads r (Ok sc)
+abbrev out : ScenarioFault → Result Scenario ScenarioFault
+out e = Err e
+
+abbrev full : Scenario → Result Scenario ScenarioFault
+full sc = Ok sc
+
+unless_ok : (r : Result Scenario ScenarioFault) (sc : Scenario) → Reads r (Ok sc) → Read.IsUnlessMemory r (Ok sc)
+unless_ok (Ok a) sc h = inl (ap (λ (x : Scenario). full x) (sym (same_answer sc a h)))
+unless_ok (Err faults.NoMemory) sc h = inr refl
+unless_ok (Err (faults.At line why)) sc h = absurd cc
+
+unless_err : (r : Result Scenario ScenarioFault) (line : ℕ) (why : Why) → Reads r (Err (at_line line why)) → Read.IsUnlessMemory r (Err (faults.At line why))
+unless_err (Ok a) line why h = absurd cc
+unless_err (Err faults.NoMemory) line why h = inr refl
+unless_err (Err (faults.At n w)) line why h = let s = same_fault line n why w h in inl (let a = s.0 in let b = s.1 in cc)
+
+pub only_by : (text : List ℕ) (r : Result Scenario ScenarioFault) (sc : Scenario) → Reads r (read_of text) → Read.IsRead text sc → Read.IsUnlessMemory r (Ok sc)
 unfolding read_of
 only_by text r sc h i =
-    subst (λ (x : Result Scenario At). Reads r x) (lead_answered (split_of text).0 1 nothing (split_of text).1 i.1 refl i.2 i.3 i.0 ∙ ap (λ (x : Scenario). answered x) (sym i.4)) h
+    unless_ok r sc
+        (subst (λ (x : Result Scenario At). Reads r x) (lead_answered (split_of text).0 1 nothing (split_of text).1 i.1 refl i.2 i.3 i.0 ∙ ap (λ (x : Scenario). answered x) (sym i.4)) h)
 
-pub fault_by : (text : List ℕ) (r : Result Scenario ScenarioFault) → Reads r (read_of text) → Read.IsFaultOf r text
+told_fault : (text : List ℕ) (r : Result Scenario ScenarioFault) (line : ℕ) (why : Why) → Reads r (read_of text) → r ≡ Err (faults.At line why) → read_of text ≡ Err (at_line line why)
+told_fault text r line why h e = subst (λ (x : Result Scenario ScenarioFault). Reads x (read_of text)) e h
+
+pub fault_by : (text : List ℕ) (r : Result Scenario ScenarioFault) (line : ℕ) (why : Why) → Reads r (read_of text) → r ≡ Err (faults.At line why) → IsFault text line why
 unfolding read_of
-fault_by text (Ok sc) h = tt
-fault_by text (Err faults.NoMemory) h = tt
-fault_by text (Err (faults.At line why)) h = answer_fault (split_of text).0 1 nothing (split_of text).1 line why refl h
+fault_by text r line why h e = answer_fault (split_of text).0 1 nothing (split_of text).1 line why refl (told_fault text r line why h e)
 
-pub fault_only_by : (text : List ℕ) (r : Result Scenario ScenarioFault) (line : ℕ) (why : Why) → Reads r (read_of text) → IsFault text line why → Reads r (Err (at_line line why))
+pub fault_only_by : (text : List ℕ) (r : Result Scenario ScenarioFault) (line : ℕ) (why : Why) → Reads r (read_of text) → IsFault text line why → Read.IsUnlessMemory r (Err (faults.At line why))
 unfolding read_of
 fault_only_by text r line why h i =
-    subst (λ (x : Result Scenario At). Reads r x) (fault_answered (split_of text).0 1 nothing (split_of text).1 line why refl i) h
+    unless_err r line why
+        (subst (λ (x : Result Scenario At). Reads r x) (fault_answered (split_of text).0 1 nothing (split_of text).1 line why refl i) h)

@@ -82,7 +82,6 @@ IsFault text at why = FirstFault 1 nothing (split_of text).0 (split_of text).1 a
 abbrev pub IsRead : List ℕ → Scenario → Type 0
 IsRead text sc = ((split_of text).1 ≡ []) × (e : Draft) × Lead nothing (split_of text).0 e × (e.place ≡ places.End) × (sc ≡ record { flags = e.flags; phases = e.phases })
 
-abbrev pub IsFaultOf : Result Scenario ScenarioFault → List ℕ → Type 0
-IsFaultOf (Ok sc) text = Unit {0}
-IsFaultOf (Err faults.NoMemory) text = Unit {0}
-IsFaultOf (Err (faults.At line why)) text = IsFault text line why
+-- it is this answer, or memory ran out
+abbrev pub IsUnlessMemory : Result Scenario ScenarioFault → Result Scenario ScenarioFault → Type 0
+IsUnlessMemory result answer = (result ≡ answer) ⊎ (result ≡ Err faults.NoMemory)

@@ -1,14 +1,14 @@
 ghost use Rattle.std.specs.Prelude.{◌≡◌, ◌≢◌, ◌<◌, ◌≤◌, ◌+◌, ◌∷◌, ◌++◌, [], ℕ, List, length, codes, IfSome, IfNone, IfOk};
 ghost use Rattle.vch_scenario.specs.Reading.{Gives, Tells};
 ghost use Rattle.vch_scenario.specs.Whole as whole;
-ghost use Rattle.vch_scenario.specs.Faults.{IsFault, IsFaultOf};
+ghost use Rattle.vch_scenario.specs.Faults.{IsFault, IsUnlessMemory};
 ghost use Rattle.vch_model.specs.Scenarios.{IsScenario};
 ghost use Rattle.vch_model.specs.TextLines.{is_passed};
 ghost use Rattle.vch_model.specs.declared.lists.Scenario.{Scenario};
 ghost use Rattle.vch_scenario.specs.declared.fault.Why.{Why};
 
 use crate::call::line_of;
-use crate::draft::{Draft, Place};
+use crate::draft::{Draft, MOST_CALLS, MOST_PHASES, Place};
 use crate::fault::{ScenarioFault, Stop, Why};
 use crate::task::{task_of, tasks_of, word_is};
 use std::alloc::Global;
@@ -62,7 +62,7 @@ fn task(mut draft: Draft, line: &[u8]) -> Result<Draft, Stop>
 fn phase(alloc: Global, mut draft: Draft) -> Result<Draft, Stop>
     ensures { Gives (λ d. d) result (whole.phase_in draft) }
 {
-    if draft.phases.len() >= 1024 {
+    if draft.phases.len() >= MOST_PHASES {
         return Err(Stop::Fault { why: Why::Limit });
     }
     draft.phases.push(LineList::new(alloc))?;
@@ -86,7 +86,7 @@ fn call(alloc: Global, mut draft: Draft, line: &[u8]) -> Result<Draft, Stop>
     ensures { Gives (λ d. d) result (whole.call_in draft line.now) }
 {
     let line = line_of(alloc, draft.tasks, line)?;
-    if draft.calls >= 16384 {
+    if draft.calls >= MOST_CALLS {
         return Err(Stop::Fault { why: Why::Limit });
     }
     draft.phases.add_line(line)?;
@@ -207,17 +207,27 @@ fn read_lines(alloc: Global, bytes: &[u8]) -> Result<Scenario, ScenarioFault>
     finish(number, draft, rest)
 }
 
-/// The scenario that a text gives.
+/// The scenario of a text, of either case of hexadecimal digits and with lines that are passed over;
+/// or its first line that can't stand at its place, and why.
+///
+/// On one line form is looked at before ranges, and ranges before limits. A rest behind the last line
+/// feed is never looked at for its form, and neither is what follows the line `end`.
+///
+/// The text is gone over once and in its order. What is taken of memory is what the scenario keeps;
+/// the want of it is the one answer that the text doesn't decide. The bound on the text's size makes
+/// the number of a line fit.
 pub fn read(alloc: Global, bytes: &[u8]) -> Result<Scenario, ScenarioFault>
     requires { length bytes.now < 4294967295 }
-    // What is read is the scenario of the text.
+
+    // The scenario that is read is the text's, and one that the text has is read.
     ensures found { IfOk result (λ sc. IsScenario bytes.now sc) }
-    // A scenario of the text is read, unless memory runs out.
-    ensures only { (sc : Scenario) → IsScenario bytes.now sc → whole.Reads result (Ok sc) }
-    // A fault is the first one.
-    ensures fault { IsFaultOf result bytes.now }
-    // The first fault is answered, unless memory runs out.
-    ensures fault_only { (line : ℕ) (why : Why) → IsFault bytes.now line why → whole.Reads result (Err (whole.at_line line why)) }
+    ensures only { (sc : Scenario) → IsScenario bytes.now sc → IsUnlessMemory result (Ok sc) }
+
+    // The fault that is told is the text's first, and one that the text has is told.
+    ensures fault { (line : ℕ) (why : Why) →
+        result ≡ Err (ScenarioFault.At line why) → IsFault bytes.now line why }
+    ensures fault_only { (line : ℕ) (why : Why) →
+        IsFault bytes.now line why → IsUnlessMemory result (Err (ScenarioFault.At line why)) }
 {
     read_lines(alloc, bytes)
 }

@@ -2,6 +2,7 @@ ghost use Rattle.std.specs.Prelude.{◌≡◌, ◌<◌, ◌≤◌, ℕ, List, Re
 ghost use Rattle.vch_scenario.specs.Reading.{Tells};
 ghost use Rattle.vch_scenario.specs.Calls as calls;
 
+use crate::draft::MOST_TASKS;
 use crate::fault::Why;
 use vch_base::Flags;
 use vch_text::{front, is_word, number_in, one_number};
@@ -86,6 +87,6 @@ pub fn tasks_of(line: &[u8]) -> Result<u32, Why>
     let (name, rest) = front(b' ', line);
     word_is(b"tasks", name)?;
     let n = one_number(rest).ok_or(Why::Form)?;
-    task_among(64, n)
+    task_among(MOST_TASKS, n)
 }
 

@@ -3,7 +3,7 @@ ghost use Rattle.std.specs.Fmt.{decimal};
 ghost use Rattle.vch_model.specs.Text.{hex_of, newline, word_text};
 ghost use Rattle.vch_model.specs.Grammar as grammar;
 ghost use Rattle.vch_model.specs.Words.{word_of};
-ghost use Rattle.vch_model.specs.Scenarios.{task_items, line_items, phase_items};
+ghost use Rattle.vch_model.specs.Scenarios.{IsScenario, task_items, line_items, phase_items};
 ghost use Rattle.vch_model.specs.Canonical.{spelled_text, item_line, items_text, Canon, IsWritable};
 
 use std::alloc::Global;
@@ -137,10 +137,13 @@ fn push_phases(alloc: Global, out: &mut Vec<u8>, phases: &PhaseList) -> Result<(
     Ok(())
 }
 
-/// The canonical text of a scenario.
+/// The canonical text of a scenario: no line is passed over, and hexadecimal digits are in lower case.
+///
+/// It is a text of the scenario where that is within the limits of the grammar. Its time is that of
+/// the text's length; the one error is want of memory.
 pub fn write(alloc: Global, scenario: &Scenario) -> Result<Vec<u8>, NoMemory>
-    requires { IsWritable scenario.now }
-    ensures { IfOk result (λ text. text.items ≡ Canon scenario.now) }
+    ensures canonical { IfOk result (λ text. text.items ≡ Canon scenario.now) }
+    ensures again { IsWritable scenario.now → IfOk result (λ text. IsScenario text.items scenario.now) }
 {
     let mut out = Vec::new(alloc);
     push_text(&mut out, b"vouch 1\ntasks ")?;
