@@ -1,72 +1,25 @@
-//! Recipe arrays: records that follow each other without padding.
+//! Recipe arrays: packed records that follow each other without padding, from which a task makes a
+//! voucher.
+//!
+//! The packed record, its header of 16 bytes and the limit of 5,120 bytes on an array are the kernel
+//! release's. That a number stands with its lowest byte first is this project's own.
+//!
+//! The one invariant is that a record has one spelling and that no spelling begins another: bytes are
+//! the records of one list or of none. The hazard is hostile bytes: a header that is cut, or one that
+//! wants more content than is left. Then no record is read there, and nothing is read beyond the array:
+//! `records` says which of the faults it is, at which place, and with which numbers.
 #![tactic(auto)]
 
-ghost use Rattle.std.specs.Prelude.{◌≡◌, ◌≤◌, ◌+◌, length, drop};
-ghost use Rattle.vch_recipe.specs.Recipes as recipes;
-ghost use Rattle.vch_recipe.specs.Step.{IsStep};
-
 mod fault;
+mod laws;
+mod reader;
 mod recipe;
+mod step;
+mod write;
 
-pub use fault::{RecipeFault, write_recipe};
-pub use recipe::Recipe;
-
-/// How an array goes on at a place.
-#[derive(Clone, Copy, Debug)]
-pub enum Step<'a> {
-    One {
-        key: u32,
-        command: u32,
-        previous: u32,
-        content: &'a [u8],
-        next: usize,
-    },
-    End,
-    HeaderCut {
-        left: usize,
-    },
-    ContentCut {
-        wanted: u32,
-        left: usize,
-    },
-}
-
-/// The number in the four bytes at a place, the lowest first.
-#[tactic(auto, unfolding(crate::specs::Recipes::word_at))]
-fn word_at(bytes: &[u8], place: usize) -> u32
-    requires { place + 4 ≤ length bytes.now }
-    ensures { result ≡ recipes.word_at place bytes.now }
-{
-    let bytes = &bytes[place..place + 4];
-    u32::from_le_bytes([bytes[0], bytes[1], bytes[2], bytes[3]])
-}
-
-/// The record at a place, or how it is cut.
-pub fn next_recipe(bytes: &[u8], at: usize) -> Step<'_>
-    requires { at ≤ length bytes.now }
-    ensures { IsStep (drop at bytes.now) (length bytes.now) result }
-{
-    let rest = &bytes[at..];
-    if rest.is_empty() {
-        return Step::End;
-    }
-    if rest.len() < 16 {
-        return Step::HeaderCut { left: rest.len() };
-    }
-    let wanted = word_at(rest, 12);
-    let (header, content) = rest.split_at(16);
-    let size = wanted as usize;
-    if content.len() < size {
-        return Step::ContentCut {
-            wanted,
-            left: content.len(),
-        };
-    }
-    Step::One {
-        key: word_at(rest, 0),
-        command: word_at(rest, 4),
-        previous: word_at(rest, 8),
-        content: &content[..size],
-        next: at + 16 + size,
-    }
-}
+pub use fault::RecipeFault;
+pub use laws::{first_records, four_bytes, spellings};
+pub use reader::{MOST_BYTES, records};
+pub use recipe::{Recipe, Recipes};
+pub use step::{HEADER_BYTES, Step, next_recipe};
+pub use write::write_recipe;
