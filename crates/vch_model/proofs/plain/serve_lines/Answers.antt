@@ -1,15 +1,12 @@
-use Rattle.std.proofs.Common.{arith, ◌≡◌, ◌+◌, ℕ, List, ◌∷◌, ◌++◌, [], sym, ap, ◌∙◌, subst, take, reverse}
+use Rattle.std.proofs.Common.{arith, ◌≡◌, ◌+◌, ℕ, List, ◌∷◌, ◌++◌, [], sym, ap, ◌∙◌, take, reverse}
 use Rattle.std.proofs.lemmas.List.{take_all, reverse-reverse, reverse-append}
 use Rattle.vch_model.specs.declared.call.Line.{Line}
-use Rattle.vch_model.specs.declared.entry.Entry.{Entry}
 use Rattle.vch_model.specs.declared.entry.Entry.TheVariants as entries
 use Rattle.vch_model.specs.Plain.{Plain, begun, served, serve_all, past_of}
-use Rattle.vch_model.specs.Built.{one_phase}
 use Rattle.vch_model.specs.PlainRun.{state_of}
-use Rattle.vch_model.specs.Legal.{Whole}
 use Rattle.vch_model.proofs.PlainRuns.{built_at, small_run, serve_all_push, take_next}
-use Rattle.vch_model.proofs.PlainWhole.{served_calls, plain_whole}
-use Rattle.vch_model.proofs.plain.play_lines.Goals as goal
+use Rattle.vch_model.proofs.PlainWhole.{served_calls}
+use Rattle.vch_model.proofs.plain.serve_lines.Goals as goal
 
 pub serve-requires-clause-built : goal.serve-requires-clause-built
 serve-requires-clause-built c = built_at c.args.lines.now c.loop-i.i c.at.result.now c.requires.built c.at.ensures
@@ -30,13 +27,15 @@ loop-i-preserved c =
       count = ap (λ (p : Plain). p.calls) step ∙ more ∙ ap (λ n. n + 1) c.loop-i.invariant.count;
     }
 
-pub returns-clause-whole : goal.returns-clause-whole
-returns-clause-whole c =
+pub returns : goal.returns
+returns c =
     let lines : List Line = c.args.lines.now in
     let all : take c.loop-i.i lines ≡ lines = take_all c.loop-i.i lines (omega arith) in
     let state : state_of c.loop-i.run ≡ serve_all begun lines = c.loop-i.invariant.state ∙ ap (λ l. serve_all begun l) all in
     let past : reverse c.loop-i.run.history.entries ≡ (serve_all begun lines).past = ap (λ (p : Plain). p.past) state in
     let own : c.loop-i.run.history.entries ≡ reverse (serve_all begun lines).past = sym (reverse-reverse c.loop-i.run.history.entries) ∙ ap reverse past in
     let end : reverse (past_of lines) ≡ reverse (serve_all begun lines).past ++ entries.Phase ∷ [] = reverse-append (entries.Phase ∷ []) (serve_all begun lines).past in
-    let h : c.push.new.self.entries ≡ reverse (past_of lines) = c.push.ensures.entries ∙ ap (λ l. l ++ entries.Phase ∷ []) (c.in_ok-reserve.ensures.same ∙ own) ∙ sym end in
-    subst (λ (x : List Entry). Whole x (one_phase lines)) (sym h) (plain_whole lines c.requires.built)
+    record {
+      history = c.push.ensures.entries ∙ ap (λ l. l ++ entries.Phase ∷ []) (c.in_ok-reserve.ensures.same ∙ own) ∙ sym end;
+      rows = ap (λ (p : Plain). p.rows) state;
+    }

@@ -1,7 +1,7 @@
 use Rattle.std.proofs.Common.{◌≡◌, take}
 use Rattle.vch_model.specs.Plain as plain
 use Rattle.vch_model.specs.PlainRun.{state_of}
-use Rattle.vch_model.proofs.plain.play_lines.Given as goal
+use Rattle.vch_model.proofs.plain.serve_lines.Given as goal
 
 abbrev pub invariant-loop-i : goal.invariant-loop-i
 invariant-loop-i l = record {
