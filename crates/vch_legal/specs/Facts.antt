@@ -1,0 +1,106 @@
+-- What every event keeps, seen from one handle.
+use Rattle.std.specs.Prelude.{◌≡◌, ℕ, ◌+◌, Bool, true, false, ◌==◌, nat_lt, ◌&&◌, ◌||◌, not, if◌then◌else◌, List, [], ◌∷◌, Option, Some, None, is_some}
+use Rattle.vch_machine.specs.State.{of_key, Place, same_place, Living, Claim, Frame, Machine, tasked, living_at, handle_of, is_held, is_expected, claims_on, default_living, default_place}
+use Rattle.vch_machine.specs.Leaving.{is_fixed}
+
+-- one handle of a key: whether it is live and Default's, held, expected by a receipt, and the claims on it
+pub record Spot : Type 0 where
+  pub live : Bool
+  pub fixed : Bool
+  pub held : Bool
+  pub expected : Bool
+  pub claims : List Claim
+
+abbrev pub spot : Machine → Place → Spot
+spot m p = record {
+  live = is_some (living_at m.live p);
+  fixed = is_fixed m p;
+  held = is_held m p;
+  expected = is_expected m p;
+  claims = claims_on m p;
+}
+
+abbrev pub implies : Bool → Bool → Bool
+implies a b = not a || b
+
+abbrev pub asked : Claim → Bool
+asked c = is_some c.answer
+
+-- a claim that is not back has an unheld handle
+abbrev pub unheld : Spot → Claim → Bool
+unheld s c = implies (not c.back) (not s.held)
+
+-- one that is not raced and was not asked has no receipt for its handle
+abbrev pub unexpected : Spot → Claim → Bool
+unexpected s c = implies (not c.raced && not (asked c)) (not s.expected)
+
+-- one that was not asked has a live handle
+abbrev pub unasked_live : Spot → Claim → Bool
+unasked_live s c = implies (not (asked c)) s.live
+
+-- a raced one that is not back has a receipt for its handle
+abbrev pub raced_expected : Spot → Claim → Bool
+raced_expected s c = implies (c.raced && not c.back) s.expected
+
+-- one that is back has a live handle, and is raced where it was not asked
+abbrev pub back_live : Spot → Claim → Bool
+back_live s c = implies c.back (s.live && implies (not (asked c)) c.raced)
+
+abbrev pub claim_fits : Spot → Claim → Bool
+claim_fits s c = unheld s c && (unexpected s c && (unasked_live s c && (raced_expected s c && (back_live s c && not s.fixed))))
+
+-- a claim for which a live value stays
+abbrev pub keeps : Claim → Bool
+keeps c = not (asked c) || c.back
+
+-- a handle with a holder or a receipt is live
+abbrev pub holder_live : Spot → Bool
+holder_live s = implies (s.held || s.expected) s.live
+
+-- a live value but Default has a holder, a receipt, or a claim for which it stays
+abbrev pub kept_by : Spot → Bool → Bool
+kept_by s claimed = implies (s.live && not s.fixed) (s.held || (s.expected || claimed))
+
+-- no handle has two claims
+abbrev pub claims_fit : Spot → List Claim → Bool
+claims_fit s [] = kept_by s false
+claims_fit s (c ∷ []) = claim_fits s c && kept_by s (keeps c)
+claims_fit s (c ∷ d ∷ cs) = false
+
+abbrev pub spot_fits : Spot → Bool
+spot_fits s = holder_live s && (implies s.fixed s.live && claims_fit s s.claims)
+
+-- a frame with a receipt has no claim, nothing to let go, and its call is not answered
+pub record FrameFits (f : Frame) : Type 0 where
+  pub claim : is_some f.receipt ≡ true → f.claim ≡ None
+  pub lets : is_some f.receipt ≡ true → f.lets ≡ []
+  pub forming : is_some f.receipt ≡ true → is_some f.forming ≡ true
+
+abbrev pub OptionFits : Option Frame → Type 0
+OptionFits None = Unit {0}
+OptionFits (Some f) = FrameFits f
+
+abbrev pub bit : Bool → ℕ
+bit b = if b then 1 else 0
+
+-- how many elements pass
+abbrev pub times : {X : Type 0} → (X → Bool) → List X → ℕ
+times p [] = 0
+times p (x ∷ xs) = bit (p x) + times p xs
+
+-- the live and the free handles of a key are the handles ever used, each once
+abbrev pub EachOnce : Machine → Type 0
+EachOnce m = (p : Place) →
+    times (λ (l : Living). same_place l.place p) m.live + times (λ h. h == p.handle) (of_key p.key m.pools).free
+    ≡ bit (nat_lt p.handle (of_key p.key m.pools).used)
+
+-- each live value is the only one at its key that is equal to it: it is found at its own handle
+abbrev pub Different : List Living → Type 0
+Different live = (p : Place) (a : Living) → living_at live p ≡ Some a → handle_of live p.key a.value ≡ Some p.handle
+
+pub record Fits (m : Machine) : Type 0 where
+  pub spots : (p : Place) → spot_fits (spot m p) ≡ true
+  pub frames : (t : ℕ) → OptionFits (tasked m t).frame
+  pub each_once : EachOnce m
+  pub different : Different m.live
+  pub default_live : living_at m.live default_place ≡ Some default_living
