@@ -1,12 +1,13 @@
 pub mod AskSpots
 pub mod BeginSpots
+pub mod Cases
 pub mod ClaimMaps
-pub mod EventFits
 pub mod EventSpots
 pub mod Forming
 pub mod FrameSpots
 pub mod LeaveSpots
 pub mod MakeSpots
+pub mod OwnTask
 pub mod Places
 pub mod PutSpots
 pub mod ReferSpots

@@ -91,7 +91,7 @@ is_answering (Some f) = is_some f.forming
 
 -- all that every event keeps, with the history
 pub record Stands (sc : Scenario) (m : Machine) : Type 0 where
-  pub fits : Fits m
+  pub fits : Fits sc m
   pub same_store : seen m ≡ store_of sc m.past
   pub tasks : length m.tasks ≡ length sc.flags
   pub counted : (t : ℕ) → is_task sc t ≡ true → (tasked m t).begun ≡ calls_in m.past t + bit (is_answering (tasked m t).frame)
