@@ -411,10 +411,10 @@ in_range_of sc m e t task = within (nat_lt 0 t) (nat_lt t (length sc.flags + 1))
     within a b x y h = rw e (grind arith)
 
 -- an event, by its cases, from a state that meets the facts
-pub event_case : (sc : Scenario) (want : Bool) (t : ℕ) (m : Machine) (P : Machine → Type 0) → Fits sc m → Cases sc t m P → May P (event sc want m t)
+pub event_case : (sc : Scenario) (want : Bool) (t : ℕ) (m : Machine) (P : Machine → Type 0) → Fits sc m → (is_task sc t ≡ true → Cases sc t m P) → May P (event sc want m t)
 unfolding event
 event_case sc want t m P fits h = by_task (is_task sc t) refl
   where
     by_task : (b : Bool) → is_task sc t ≡ b → May P (if b then event_of sc want m t (tasked m t).frame (next_kind sc m t) else None)
-    by_task true task = of_case sc want t m P (tasked m t).frame (next_kind sc m t) h (in_range_of sc m fits.tasks) fits.sends task refl (fits.frames t) refl
+    by_task true task = of_case sc want t m P (tasked m t).frame (next_kind sc m t) (h task) (in_range_of sc m fits.tasks) fits.sends task refl (fits.frames t) refl
     by_task false task = tt

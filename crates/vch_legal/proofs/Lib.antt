@@ -6,6 +6,7 @@ pub mod EventSpots
 pub mod Forming
 pub mod FrameSpots
 pub mod LeaveSpots
+pub mod LiveKeeps
 pub mod MakeSpots
 pub mod OwnTask
 pub mod Places
@@ -21,4 +22,5 @@ pub mod StartFits
 pub mod TaskLists
 pub mod TransferSpots
 pub mod Values
+pub mod ValuesMade
 pub mod WorkSpots

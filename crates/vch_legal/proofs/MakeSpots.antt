@@ -55,7 +55,7 @@ given_fits m t f q e receipt live h p =
     (ap (λ x. one x (is_fixed m q) (is_held m q) (is_expected m q) (claims_on m q)) (sym live)) (h q)))))
     (λ other. fits_of (spot (given_receipt m t f q) p) (spot m p) (given_other m t f q p e receipt other) (h p))
 
-append_other : (live : List Living) (l : Living) (p : Place) → same_place l.place p ≡ false → living_at (live ++ l ∷ []) p ≡ living_at live p
+pub append_other : (live : List Living) (l : Living) (p : Place) → same_place l.place p ≡ false → living_at (live ++ l ∷ []) p ≡ living_at live p
 append_other [] l p e = rw e
 append_other (x ∷ live) l p e = rw (append_other live l p e)
 
@@ -65,7 +65,7 @@ if_true b y z k = rw k
 if_false : {A : Type 0} (b : Bool) (y z : A) → b ≡ false → (if b then y else z) ≡ z
 if_false b y z k = rw k
 
-append_here : (live : List Living) (l : Living) → living_at live l.place ≡ None → living_at (live ++ l ∷ []) l.place ≡ Some l
+pub append_here : (live : List Living) (l : Living) → living_at live l.place ≡ None → living_at (live ++ l ∷ []) l.place ≡ Some l
 append_here [] l e = rw (same_place_refl l.place)
 append_here (x ∷ live) l e =
     cases_bool (same_place x.place l.place) (living_at (x ∷ live ++ l ∷ []) l.place ≡ Some l)
