@@ -19,6 +19,7 @@ pub mod SeenSame
 pub mod Shapes
 pub mod SpotSteps
 pub mod StartFits
+pub mod TaskKeeps
 pub mod TaskLists
 pub mod TransferSpots
 pub mod Values

@@ -98,9 +98,12 @@ abbrev pub SentTo : Scenario → ℕ → Machine → Type 0
 SentTo sc t n = (f : Frame) (to : ℕ) (moving : Bool) (name id : ℕ) → (tasked n t).frame ≡ Some f → current sc n t ≡ Some (calls.Send to moving name id) → is_task sc to ≡ true
 
 -- where a frame was there before
+pub sent_begun : (sc : Scenario) (t : ℕ) (m n : Machine) (f : Frame) → SendsToTasks sc m → is_task sc t ≡ true → (tasked m t).frame ≡ Some f → (tasked n t).begun ≡ (tasked m t).begun → SentTo sc t n
+sent_begun sc t m n f sends task e begun g to moving name id frame call =
+    sends t f to moving name id task e (sym (ap (λ k. nth_call sc t k) begun) ∙ call)
+
 pub sent_near : (sc : Scenario) (t : ℕ) (m n : Machine) (f : Frame) → SendsToTasks sc m → is_task sc t ≡ true → (tasked m t).frame ≡ Some f → Near t m n → SentTo sc t n
-sent_near sc t m n f sends task e near g to moving name id frame call =
-    sends t f to moving name id task e (sym (ap (λ k. nth_call sc t k) near.begun) ∙ call)
+sent_near sc t m n f sends task e near = sent_begun sc t m n f sends task e near.begun
 
 -- Few handles to let go.
 
