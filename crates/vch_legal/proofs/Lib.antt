@@ -1,5 +1,6 @@
 pub mod AskSpots
 pub mod BeginSpots
+pub mod Burdens
 pub mod Cases
 pub mod ClaimMaps
 pub mod EventSpots
@@ -19,6 +20,7 @@ pub mod SeenSame
 pub mod Shapes
 pub mod SpotSteps
 pub mod StartFits
+pub mod TallyKeeps
 pub mod TaskKeeps
 pub mod TaskLists
 pub mod TransferSpots

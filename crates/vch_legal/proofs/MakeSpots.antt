@@ -21,13 +21,13 @@ use Rattle.vch_legal.proofs.AskSpots.{spot_live}
 abbrev expecting : Machine → ℕ → Frame → Place → Machine
 expecting m t f q = with_frame m t (Some (record f { receipt = Some q }))
 
-given_other : (m : Machine) (t : ℕ) (f : Frame) (q p : Place) → (tasked m t).frame ≡ Some f → f.receipt ≡ None → same_place q p ≡ false
+pub given_other : (m : Machine) (t : ℕ) (f : Frame) (q p : Place) → (tasked m t).frame ≡ Some f → f.receipt ≡ None → same_place q p ≡ false
     → spot (given_receipt m t f q) p ≡ spot m p
 given_other m t f q p e receipt other =
     spot_on_other (expecting m t f q) (race_claim q) p (λ c. race_other q p c other)
     ∙ spot_same m t f (Some (record f { receipt = Some q })) p e refl (other ∙ sym (ap (λ x. is_place x p) receipt)) refl
 
-given_here : (m : Machine) (t : ℕ) (f : Frame) (q : Place) → (tasked m t).frame ≡ Some f
+pub given_here : (m : Machine) (t : ℕ) (f : Frame) (q : Place) → (tasked m t).frame ≡ Some f
     → spot (given_receipt m t f q) q ≡ one (is_some (living_at m.live q)) (is_fixed m q) (is_held m q) true (map raced_now (claims_on m q))
 given_here m t f q e =
     spot_on (expecting m t f q) (race_claim q) raced_now q (race_here q)
