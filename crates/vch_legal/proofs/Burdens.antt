@@ -1,9 +1,8 @@
 -- What a handle has still to be paid for by a question, through the events of one handle, and sums over live values.
-use Rattle.std.proofs.Common.{◌≡◌, ℕ, ◌+◌, ◌≤◌, Bool, List, [], ◌∷◌, ◌++◌, refl, true, false, not, ◌&&◌, ◌||◌, arith, map, ap, ◌∙◌, sym, Some, None, Option}
+use Rattle.std.proofs.Common.{◌≡◌, ℕ, ◌+◌, ◌≤◌, Bool, List, [], ◌∷◌, ◌++◌, true, false, not, ◌&&◌, ◌||◌, arith, map, ◌∙◌, sym, Some}
 use Rattle.std.specs.Prelude.{is_some, if◌then◌else◌}
-use Rattle.std.specs.List.{list_any}
 use Rattle.vch_machine.specs.State.{Place, same_place, Living, Claim, living_at, without_place, is_empty}
-use Rattle.vch_legal.specs.Facts.{Spot, spot_fits, burden, total, bit, times, asked}
+use Rattle.vch_legal.specs.Facts.{spot_fits, burden, total, bit, times}
 use Rattle.vch_legal.proofs.SpotSteps.{one, fresh, raced_now, back_now}
 use Rattle.vch_legal.proofs.Places.{same_place_eq, same_place_refl, same_place_comm}
 use Rattle.vch_legal.proofs.EventSpots.{cases_bool}

@@ -1,5 +1,5 @@
 -- An event by cases: what is to be shown of the state after an event, by what the event does to values and handles.
-use Rattle.std.proofs.Common.{◌≡◌, ℕ, ◌+◌, ◌-◌, ◌<◌, ◌≤◌, Bool, List, [], ◌∷◌, ◌++◌, refl, true, false, arith, sym, ap, ◌∙◌, subst, length, length-append, get_or, Some, None, Option, Ok, Err, Result}
+use Rattle.std.proofs.Common.{◌≡◌, ℕ, ◌+◌, ◌-◌, ◌<◌, ◌≤◌, Bool, List, [], ◌∷◌, ◌++◌, refl, true, false, arith, sym, ap, ◌∙◌, subst, length, get_or, Some, None, Option, Ok, Err, Result}
 use Rattle.std.proofs.lemmas.List.{get_or-set_same, length-set}
 use Rattle.std.specs.Prelude.{is_some, if◌then◌else◌, ◌==◌, ◌&&◌, ◌||◌, nat_lt, not, ℤ, pos}
 use Rattle.vch_base.specs.declared.key.Key.{Key}
@@ -13,26 +13,25 @@ use Rattle.vch_model.specs.declared.call.Call.TheVariants as calls
 use Rattle.vch_model.specs.declared.entry.Reply.{Reply}
 use Rattle.vch_model.specs.declared.lists.Scenario.{Scenario}
 use Rattle.vch_model.specs.Lines.{is_task, phases_in}
-use Rattle.vch_machine.specs.State.{Handles, Place, Claim, Frame, Tasked, Machine, Message, Named, idle, tasked, with_tasked, handle_of, of_key, with_key, option_has, is_place, claim_at, no_handles}
+use Rattle.vch_machine.specs.State.{Handles, Place, Claim, Frame, Tasked, Machine, Message, idle, tasked, with_tasked, handle_of, of_key, with_key, option_has, is_place, claim_at, no_handles}
 use Rattle.vch_machine.specs.Beginning.{dropped, begin_line, begin_call, begin_recv, begin_send, begun_one, store_reply, is_full, fresh_frame, leaving_frame, key_if, dequeued, enqueued, first_voucher, or_want}
 use Rattle.vch_machine.specs.Events.{event, event_of, frame_event, on_formed, on_place, on_lets, on_the_claim}
 use Rattle.vch_machine.specs.Frames.{closed, refuse, replied, with_frame}
 use Rattle.vch_machine.specs.Leaving.{do_let_go, do_ask, do_recheck}
 use Rattle.vch_machine.specs.Making.{make_asked, make_done, made_at, asked_by, Asked, moved, do_refer}
-use Rattle.vch_machine.specs.Naming.{item, places, option_places, one_less, handles_of, orphaned, doubled, name_of, with_name}
+use Rattle.vch_machine.specs.Naming.{item, option_places, one_less, handles_of, orphaned, doubled, name_of, with_name}
 use Rattle.vch_machine.specs.Next.{next_kind, task_next, current, nth_call}
 use Rattle.vch_machine.specs.Placing.{do_place, place_create, place_send, place_recv, ended, moved_name}
-use Rattle.vch_machine.specs.Working.{do_work, work_done, first_at, size_of, work_first, Worked}
+use Rattle.vch_machine.specs.Working.{work_done, first_at, size_of, work_first, Worked}
 use Rattle.vch_legal.specs.Facts.{Fits, FrameFits, OptionFits, SendsToTasks, spot}
 use Rattle.vch_legal.proofs.FrameSpots.{kept_named}
-use Rattle.vch_legal.proofs.EventSpots.{cases_bool}
-use Rattle.vch_legal.proofs.ReferSpots.{Moved, holds_eq, moved_same}
+use Rattle.vch_legal.proofs.ReferSpots.{holds_eq, moved_same}
 use Rattle.vch_legal.proofs.WorkSpots.{refuse_spot, work_spot, spot_alike, swap_holds, lets_hold}
 use Rattle.vch_legal.proofs.PutSpots.{put_create_spot}
 use Rattle.vch_legal.proofs.TransferSpots.{put_recv_spot, put_send_spot}
 use Rattle.vch_legal.proofs.BeginSpots.{InRange, begun_spot, begin_spot}
 use Rattle.vch_legal.proofs.Shapes.{Shape, shape_of}
-use Rattle.vch_legal.proofs.OwnTask.{set_keeps, Near, SentTo, near_self, near_then, near_task, near_own, near_framed, near_replied, near_queued, near_either, named_begun, own_frame, sent_near, plain_fits, closed_fits, item_fits, orphaned_few, doubled_few, work_few, refuse_few, one_few, two_few}
+use Rattle.vch_legal.proofs.OwnTask.{set_keeps, Near, SentTo, near_self, near_then, near_own, near_framed, near_replied, near_queued, near_either, named_begun, own_frame, sent_near, plain_fits, closed_fits, item_fits, orphaned_few, doubled_few, work_few, refuse_few, one_few, two_few}
 
 -- an event that leaves the values, the handles, the tally and every spot
 pub record Plain (sc : Scenario) (t : ℕ) (m n : Machine) : Type 0 where

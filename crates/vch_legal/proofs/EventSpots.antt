@@ -90,9 +90,9 @@ let_go_here m t f q rest e claim = changed ∙ ap (λ cs. gone_spot m t f q rest
     changed : spot (do_let_go m t f q rest) q ≡ gone_spot m t f q rest (left_held m t f q rest) (claim_at (claim_if (let_mid m t f rest) q) q)
     changed = spot_set m t (closed (let_frame f rest (claim_if (let_mid m t f rest) q))) q l
         ∙ one_eq _ _ _ _ _ _ _ _
-          (ap (λ x. x || kept_named m t q) (closed_holds (let_frame f rest (claim_if (let_mid m t f rest) q)) q))
-          (ap (λ x. x || others_expect m t q) (closed_expects (let_frame f rest (claim_if (let_mid m t f rest) q)) q))
-          (ap (λ x. claims_before m t q ++ (x ++ claims_behind m t q)) (closed_claims (let_frame f rest (claim_if (let_mid m t f rest) q)) q))
+        (ap (λ x. x || kept_named m t q) (closed_holds (let_frame f rest (claim_if (let_mid m t f rest) q)) q))
+        (ap (λ x. x || others_expect m t q) (closed_expects (let_frame f rest (claim_if (let_mid m t f rest) q)) q))
+        (ap (λ x. claims_before m t q ++ (x ++ claims_behind m t q)) (closed_claims (let_frame f rest (claim_if (let_mid m t f rest) q)) q))
 
     middle : spot (let_mid m t f rest) q ≡ spot_by m t (Some (record f { lets = rest })) q
     middle = spot_set m t (Some (record f { lets = rest })) q l

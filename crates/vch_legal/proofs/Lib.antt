@@ -6,6 +6,7 @@ pub mod ClaimMaps
 pub mod EventSpots
 pub mod Forming
 pub mod FrameSpots
+pub mod Keeps
 pub mod LeaveSpots
 pub mod LiveKeeps
 pub mod MakeSpots

@@ -1,22 +1,20 @@
 -- The live values and the free handles: each handle once, different values, Default, the keys, the tasks and the numbers of
 -- the values, through every event.
-use Rattle.std.proofs.Common.{inl, inr, ◌≡◌, ℕ, suc, ◌+◌, ◌≤◌, Bool, List, [], ◌∷◌, ◌++◌, refl, true, false, not, ◌&&◌, arith, sym, ap, ◌∙◌, subst, length, Some, None, Option, Ok}
+use Rattle.std.proofs.Common.{inl, inr, ◌≡◌, ℕ, suc, ◌+◌, ◌≤◌, Bool, List, [], ◌∷◌, ◌++◌, refl, true, false, not, ◌&&◌, arith, sym, ap, ◌∙◌, subst, length, Some, None, Option}
 use Rattle.std.specs.Prelude.{◌⊎◌, is_some, if◌then◌else◌, ◌==◌, nat_lt}
 use Rattle.vch_base.specs.declared.key.Key.{Key}
 use Rattle.vch_base.specs.declared.key.Key.TheVariants as keys
 use Rattle.vch_base.specs.Keys.{number_of}
 use Rattle.vch_base.specs.declared.value.Value.{Value}
-use Rattle.vch_base.specs.declared.value.Value.TheVariants as values
-use Rattle.vch_base.specs.Values.{equal_values, is_default}
-use Rattle.vch_model.specs.declared.call.Call.{Call}
+use Rattle.vch_base.specs.Values.{equal_values}
 use Rattle.vch_model.specs.declared.lists.Scenario.{Scenario}
 use Rattle.vch_model.specs.Lines.{is_task}
-use Rattle.vch_machine.specs.State.{Keyed, of_key, Handles, Place, same_place, Living, Pool, Machine, Claim, Frame, living_at, without_place, handle_of, default_place, default_living, tasked}
+use Rattle.vch_machine.specs.State.{Keyed, of_key, Place, same_place, Living, Pool, Machine, Claim, Frame, living_at, without_place, handle_of, default_place, default_living, tasked}
 use Rattle.vch_machine.specs.Frames.{with_frame, tallied}
-use Rattle.vch_machine.specs.Leaving.{released, is_fixed, is_fixed_value, do_let_go, do_ask, do_recheck, with_answer, one_ask}
-use Rattle.vch_machine.specs.Making.{minted, fresh_handle, made_at, do_refer}
-use Rattle.vch_legal.specs.Facts.{Fits, EachOnce, Different, ValueFits, ValuesFit, NumbersFit, bit, times, Spot, spot, spot_fits, asked}
-use Rattle.vch_legal.proofs.Places.{same_place_eq, same_place_refl}
+use Rattle.vch_machine.specs.Leaving.{released, is_fixed, is_fixed_value, with_answer, one_ask}
+use Rattle.vch_machine.specs.Making.{minted, fresh_handle, made_at}
+use Rattle.vch_legal.specs.Facts.{Fits, Different, ValueFits, ValuesFit, NumbersFit, bit, times, Spot, spot, spot_fits}
+use Rattle.vch_legal.proofs.Places.{same_place_eq}
 use Rattle.vch_legal.proofs.SpotSteps.{one}
 use Rattle.vch_legal.proofs.EventSpots.{cases_bool, fits_of, claimed_spot, claimed_before}
 use Rattle.vch_legal.proofs.FrameSpots.{claims_before, claims_behind}
@@ -25,7 +23,7 @@ use Rattle.vch_legal.proofs.MakeSpots.{append_here, append_other, fresh_dead}
 use Rattle.vch_legal.proofs.SeenHeld.{values_refl}
 use Rattle.vch_legal.proofs.Values.{ask_each_once, ask_different, ask_default, make_each_once, found_append}
 use Rattle.vch_legal.proofs.ValuesMade.{asked_value}
-use Rattle.vch_legal.proofs.Cases.{Cases, Plain}
+use Rattle.vch_legal.proofs.Cases.{Cases}
 
 abbrev OnceOf : List Living → Keyed Pool → Type 0
 OnceOf live pools = (p : Place) →

@@ -15,7 +15,7 @@ use Rattle.vch_model.specs.declared.lists.Scenario.{Scenario}
 use Rattle.vch_model.specs.Lines.{is_task}
 use Rattle.vch_machine.specs.State.{of_key, Handles, Place, Frame, Tasked, Machine, Message, idle, tasked, with_tasked, Named}
 use Rattle.vch_machine.specs.Beginning.{enqueued}
-use Rattle.vch_machine.specs.Frames.{closed, with_frame, replied, refuse}
+use Rattle.vch_machine.specs.Frames.{closed, with_frame, replied}
 use Rattle.vch_machine.specs.Naming.{item, places, option_places, is_known, orphaned, doubled, with_name, handles_of}
 use Rattle.vch_machine.specs.Next.{current, nth_call}
 use Rattle.vch_machine.specs.Working.{Worked, changed, changed_at, changed_keys, copied, copies, removes, worked, worked_with, work_first}

@@ -1,5 +1,5 @@
 -- The questions that were asked, and those that may still come, are no more than the references taken: through every event.
-use Rattle.std.proofs.Common.{◌≡◌, ℕ, ◌+◌, ◌-◌, ◌≤◌, Bool, List, [], ◌∷◌, ◌++◌, refl, true, false, not, ◌&&◌, ◌||◌, arith, sym, ap, ◌∙◌, subst, length, map, Some, None, Option, Ok}
+use Rattle.std.proofs.Common.{◌≡◌, ℕ, ◌+◌, ◌≤◌, Bool, List, [], ◌∷◌, ◌++◌, refl, true, false, not, ◌&&◌, ◌||◌, arith, sym, ap, ◌∙◌, subst, length, map, Some, None, Option}
 use Rattle.std.specs.Prelude.{is_some, if◌then◌else◌, nat_lt, ◌==◌}
 use Rattle.vch_base.specs.declared.key.Key.{Key}
 use Rattle.vch_base.specs.declared.key.Key.TheVariants as keys
@@ -9,13 +9,13 @@ use Rattle.vch_base.specs.Values.{is_default}
 use Rattle.vch_model.specs.declared.call.Call.{Call}
 use Rattle.vch_model.specs.declared.lists.Scenario.{Scenario}
 use Rattle.vch_model.specs.Lines.{is_task}
-use Rattle.vch_machine.specs.State.{Handles, of_key, Place, same_place, Living, Claim, Frame, Tally, Machine, tasked, living_at, handle_of, is_place, is_held, is_expected, claims_on, claim_at, frame_holds, default_place, default_living, is_empty}
+use Rattle.vch_machine.specs.State.{Handles, of_key, Place, same_place, Living, Claim, Frame, Tally, Machine, tasked, living_at, handle_of, is_place, is_held, is_expected, claims_on, claim_at, frame_holds, default_place, default_living}
 use Rattle.vch_machine.specs.Frames.{with_frame, tallied}
-use Rattle.vch_machine.specs.Leaving.{is_fixed, is_fixed_value, more_claims, claim_if, do_let_go, do_ask, do_recheck, released, with_answer, one_ask, again, new_claim}
+use Rattle.vch_machine.specs.Leaving.{is_fixed, more_claims, claim_if, do_let_go, do_recheck, released, with_answer, one_ask, again}
 use Rattle.vch_machine.specs.Making.{given_receipt, minted, made_at, do_refer, fresh_handle}
-use Rattle.vch_legal.specs.Facts.{Fits, Spot, spot, spot_fits, burden, total, bit, times, IsCounted, FrameFits, OptionFits, ValueFits, EachOnce, Different}
-use Rattle.vch_legal.proofs.SpotSteps.{one, fresh, raced_now, back_now}
-use Rattle.vch_legal.proofs.Places.{same_place_eq, same_place_refl, same_place_comm}
+use Rattle.vch_legal.specs.Facts.{Fits, Spot, spot, spot_fits, burden, total, bit, times, IsCounted, OptionFits, ValueFits, EachOnce, Different}
+use Rattle.vch_legal.proofs.SpotSteps.{one, fresh, raced_now}
+use Rattle.vch_legal.proofs.Places.{same_place_eq}
 use Rattle.vch_legal.proofs.FrameSpots.{kept_named, others_expect, claims_before, claims_behind}
 use Rattle.vch_legal.proofs.EventSpots.{cases_bool, fits_of, claimed_spot, claimed_before, claimed_after, claimed_other, again_place, some_if, let_go_here, let_go_was, let_go_other, gone_spot, left_held, left_claims}
 use Rattle.vch_legal.proofs.AskSpots.{refused_here, answered_other, agreed_other, answered, spot_live}

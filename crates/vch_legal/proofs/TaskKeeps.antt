@@ -1,27 +1,26 @@
 -- Frames, sends that are under way, and the number of tasks, through every event.
-use Rattle.std.proofs.Common.{◌≡◌, ◌≢◌, ℕ, zero, suc, ◌+◌, ◌-◌, ◌≤◌, Bool, List, [], ◌∷◌, ◌++◌, refl, true, false, arith, sym, ap, ◌∙◌, subst, length, map, get_or, Some, None, Option, Ok}
-use Rattle.std.proofs.Math.ListN.{get_or-map, set}
+use Rattle.std.proofs.Common.{◌≡◌, ◌≢◌, ℕ, ◌+◌, ◌-◌, ◌≤◌, Bool, List, [], ◌∷◌, ◌++◌, refl, true, false, arith, sym, ap, ◌∙◌, subst, length, get_or, Some, None, Option}
+use Rattle.std.proofs.Math.ListN.{get_or-map}
 use Rattle.std.proofs.lemmas.List.{length-set, length-map}
 use Rattle.std.specs.Prelude.{is_some, if◌then◌else◌, ◌==◌, nat_lt, ◌&&◌}
 use Rattle.vch_base.specs.declared.key.Key.{Key}
 use Rattle.vch_base.specs.declared.value.Value.{Value}
 use Rattle.vch_model.specs.declared.call.Call.{Call}
-use Rattle.vch_model.specs.declared.call.Call.TheVariants as calls
 use Rattle.vch_model.specs.declared.lists.Scenario.{Scenario}
 use Rattle.vch_model.specs.Lines.{is_task}
 use Rattle.vch_machine.specs.State.{Handles, of_key, with_key, Place, Claim, Frame, Tasked, Machine, idle, tasked, handle_of}
 use Rattle.vch_machine.specs.Events.{event}
 use Rattle.vch_machine.specs.Frames.{closed, with_frame, tallied}
-use Rattle.vch_machine.specs.Leaving.{claim_if, do_let_go, do_ask, do_recheck, released, with_answer, one_ask, again}
-use Rattle.vch_machine.specs.Making.{on_claim, on_frame, on_task, on_claims, race_claim, back_claim, given_receipt, minted, made_at, moved, do_refer, fresh_handle}
+use Rattle.vch_machine.specs.Leaving.{claim_if, do_let_go, do_recheck, released, with_answer, one_ask, again}
+use Rattle.vch_machine.specs.Making.{on_claim, on_frame, on_task, on_claims, race_claim, back_claim, given_receipt, minted, made_at, moved, do_refer}
 use Rattle.vch_machine.specs.Naming.{item}
-use Rattle.vch_machine.specs.Next.{current, nth_call}
-use Rattle.vch_machine.proofs.Others.{Leaves, MayLeave, event_leaves, still, still_claim}
+use Rattle.vch_machine.specs.Next.{nth_call}
+use Rattle.vch_machine.proofs.Others.{Leaves, MayLeave, event_leaves, still_claim}
 use Rattle.vch_legal.specs.Facts.{Fits, FrameFits, OptionFits, SendsToTasks}
 use Rattle.vch_legal.proofs.OwnTask.{SentTo, set_keeps, own_frame, sent_begun, plain_fits, closed_fits, item_fits}
 use Rattle.vch_legal.proofs.ReferSpots.{moved_same}
 use Rattle.vch_legal.proofs.EventSpots.{cases_bool}
-use Rattle.vch_legal.proofs.Cases.{Cases, Plain, May, event_case}
+use Rattle.vch_legal.proofs.Cases.{Cases, May, event_case}
 
 -- the own task after an event, and the number of tasks
 record Own (sc : Scenario) (t : ℕ) (m n : Machine) : Type 0 where

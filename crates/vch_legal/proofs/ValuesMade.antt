@@ -1,5 +1,5 @@
 -- What a manager makes belongs to its key, and names only tasks of the scenario.
-use Rattle.std.proofs.Common.{◌≡◌, ℕ, ◌+◌, ◌-◌, ◌≤◌, Bool, List, [], ◌∷◌, ◌++◌, refl, true, false, not, ◌&&◌, arith, sym, ap, ◌∙◌, subst, length, length-append, drop, Some, None, Option, Ok, Err, Result}
+use Rattle.std.proofs.Common.{◌≡◌, ℕ, ◌+◌, ◌-◌, ◌≤◌, Bool, List, [], ◌∷◌, ◌++◌, refl, true, false, not, ◌&&◌, arith, subst, length, length-append, drop, Some, None, Option, Ok, Err, Result}
 use Rattle.std.specs.Prelude.{if◌then◌else◌, ◌==◌, nat_lt, ℤ, slice_index}
 use Rattle.std.specs.List.{list_all}
 use Rattle.vch_base.specs.declared.key.Key.{Key}
@@ -8,7 +8,7 @@ use Rattle.vch_base.specs.Keys.{key_of}
 use Rattle.vch_base.specs.declared.value.Value.{Value}
 use Rattle.vch_base.specs.declared.value.Value.TheVariants as values
 use Rattle.vch_base.specs.declared.flags.Flags.{Flags}
-use Rattle.vch_base.specs.Managers.{sent, received, mapped, bare, own_answer, flags_in, answer}
+use Rattle.vch_base.specs.Managers.{sent, received, mapped, bare, own_answer, flags_in}
 use Rattle.vch_recipe.specs.Recipes.{First, One, first_of}
 use Rattle.vch_recipe.specs.declared.recipe.Recipe.{Recipe}
 use Rattle.vch_model.specs.declared.call.Call.{Call}
