@@ -2,7 +2,9 @@ pub mod AskSpots
 pub mod BeginSpots
 pub mod Burdens
 pub mod Cases
+pub mod Charges
 pub mod ClaimMaps
+pub mod Conservation
 pub mod EventSpots
 pub mod Forming
 pub mod FrameSpots
@@ -21,6 +23,8 @@ pub mod SeenSame
 pub mod Shapes
 pub mod SpotSteps
 pub mod StartFits
+pub mod StoreKeeps
+pub mod StoreLegal
 pub mod TallyKeeps
 pub mod TaskKeeps
 pub mod TaskLists
