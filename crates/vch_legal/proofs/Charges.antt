@@ -1,34 +1,25 @@
 -- The accepted charges of a legal history are in the ledgers of tasks, or due on live accounts.
-use Rattle.std.proofs.Common.{◌≡◌, ℕ, zero, suc, ◌+◌, ◌-◌, ◌*◌, ◌≤◌, ◌<◌, Bool, List, [], ◌∷◌, ◌++◌, refl, true, false, not, ◌&&◌, ◌||◌, arith, sym, ap, ◌∙◌, subst, length, map, Some, None, Option, Ok, Err, Result, inl, inr}
-use Rattle.std.proofs.lemmas.List.Sums.{sum_by-cons, sum_by_push}
-use Rattle.std.specs.Prelude.{◌⊎◌, is_some, if◌then◌else◌, ◌==◌, nat_lt, ℤ, pos}
-use Rattle.std.specs.List.{list_any, list_all, sum_by}
-use Rattle.vch_base.specs.Keys.{key_of}
-use Rattle.vch_base.specs.declared.key.Key.TheVariants as keys
+use Rattle.std.proofs.Common.{◌≡◌, ℕ, ◌+◌, ◌*◌, ◌≤◌, Bool, List, [], ◌∷◌, refl, true, false, ◌&&◌, ◌||◌, arith, sym, ap, ◌∙◌, subst, length, Some, Option}
+use Rattle.std.proofs.lemmas.List.Sums.{sum_by-cons}
+use Rattle.std.specs.Prelude.{if◌then◌else◌, ◌==◌}
+use Rattle.std.specs.List.{list_any, sum_by}
 use Rattle.vch_base.specs.declared.value.Value.{Value}
 use Rattle.vch_base.specs.declared.value.Value.TheVariants as values
-use Rattle.vch_base.specs.Values.{equal_values, is_default, BelongsAt, task_numbers}
-use Rattle.vch_model.specs.declared.call.Call.{Call}
+use Rattle.vch_base.specs.Values.{equal_values, task_numbers}
 use Rattle.vch_model.specs.declared.call.Call.TheVariants as calls
 use Rattle.vch_model.specs.declared.call.Line.{Line}
-use Rattle.vch_model.specs.declared.call.Word.{Word}
 use Rattle.vch_model.specs.declared.entry.Entry.{Entry}
-use Rattle.vch_model.specs.declared.entry.Entry.TheVariants as entries
-use Rattle.vch_model.specs.declared.entry.Reply.{Reply}
-use Rattle.vch_model.specs.declared.entry.Reply.TheVariants as replies
 use Rattle.vch_model.specs.declared.lists.Scenario.{Scenario}
-use Rattle.vch_model.specs.Voucher.{Voucher, equal_options}
-use Rattle.vch_model.specs.Store.{Store, Alive, is_alive, is_live}
-use Rattle.vch_model.specs.Lines.{is_task, line_at}
-use Rattle.vch_model.specs.After.{store_of, without_made, is_want}
-use Rattle.vch_model.specs.Totals.{is_done, named_voucher, bank_of, charged, due, ledger, with_made, is_holder, due_of}
-use Rattle.vch_model.specs.Replies.{refused, charge_of, may_charge}
-use Rattle.vch_model.specs.Legal.{LegalPast, CanFollow, Answers, IsAnswer, IsUnheld, find_made, all_tasks}
+use Rattle.vch_model.specs.Voucher.{equal_options}
+use Rattle.vch_model.specs.Store.{Store, Alive, is_alive}
+use Rattle.vch_model.specs.Lines.{is_task}
+use Rattle.vch_model.specs.Totals.{named_voucher, bank_of, charged, due, ledger}
+use Rattle.vch_model.specs.Legal.{all_tasks}
 use Rattle.vch_legal.specs.Facts.{bit, times}
-use Rattle.vch_legal.specs.Conserved.{each_task, charge_in, accepted, account_due, dues}
+use Rattle.vch_legal.specs.Conserved.{each_task, charge_in, account_due}
 use Rattle.vch_legal.proofs.EventSpots.{cases_bool}
 use Rattle.vch_legal.proofs.SeenHeld.{values_refl, values_eq}
-use Rattle.vch_legal.proofs.StoreLegal.{AliveGood, AllGood, equals, StoreFits, none_equal, legal_store, named_live}
+use Rattle.vch_legal.proofs.StoreLegal.{AllGood, equals}
 use Rattle.vch_legal.proofs.Conservation.{each_same, each_more, task_range, live_same}
 
 -- what a charge makes of an amount on a value
@@ -36,23 +27,23 @@ abbrev charge_on : Store → ℕ → Option (ℕ × Line) → Value → ℕ → 
 charge_on s t line x amount = charged s t x amount line
 
 -- the sums after an accepted call
-abbrev ledgers_after : Scenario → List Entry → Store → ℕ → Option (ℕ × Line) → ℕ
+abbrev pub ledgers_after : Scenario → List Entry → Store → ℕ → Option (ℕ × Line) → ℕ
 ledgers_after sc past s t line = each_task (λ u. if t == u then charged s u (values.Task u) (ledger sc past u) line else ledger sc past u) (length sc.flags)
 
-due_after : Scenario → List Entry → Store → ℕ → Option (ℕ × Line) → Value → ℕ
+abbrev pub due_after : Scenario → List Entry → Store → ℕ → Option (ℕ × Line) → Value → ℕ
 due_after sc past s t line (values.Account a b) = charged s t (values.Account a b) (due sc past (values.Account a b)) line
 due_after sc past s t line x = 0
 
-abbrev dues_after : Scenario → List Entry → Store → ℕ → Option (ℕ × Line) → ℕ
+abbrev pub dues_after : Scenario → List Entry → Store → ℕ → Option (ℕ × Line) → ℕ
 dues_after sc past s t line = sum_by (λ (l : Alive). due_after sc past s t line l.value) s.live
 
-abbrev Balanced : Scenario → List Entry → Store → ℕ → Option (ℕ × Line) → Type 0
+abbrev pub Balanced : Scenario → List Entry → Store → ℕ → Option (ℕ × Line) → Type 0
 Balanced sc past s t line =
     (each_task (ledger sc past) (length sc.flags) + sum_by (λ (l : Alive). account_due sc past l.value) s.live) + charge_in line
     ≡ ledgers_after sc past s t line + dues_after sc past s t line
 
 -- a call that charges nothing
-abbrev ChargesNothing : Option (ℕ × Line) → Type 0
+abbrev pub ChargesNothing : Option (ℕ × Line) → Type 0
 ChargesNothing line = (s : Store) (t : ℕ) (x : Value) (amount : ℕ) → charged s t x amount line ≡ amount
 
 if_same : (b : Bool) (x y : ℕ) → x ≡ y → (if b then x else y) ≡ y
@@ -60,14 +51,13 @@ if_same true x y e = e
 if_same false x y e = refl
 
 due_same : (sc : Scenario) (past : List Entry) (s : Store) (t : ℕ) (line : Option (ℕ × Line)) → ChargesNothing line → (x : Value) → account_due sc past x ≡ due_after sc past s t line x
-unfolding due_after
 due_same sc past s t line none (values.Account a b) = sym (none s t (values.Account a b) (due sc past (values.Account a b)))
 due_same sc past s t line none (values.User bytes) = refl
 due_same sc past s t line none (values.Chain list) = refl
 due_same sc past s t line none values.Default = refl
 due_same sc past s t line none (values.Task u) = refl
 
-nothing_balanced : (sc : Scenario) (past : List Entry) (s : Store) (t : ℕ) (line : Option (ℕ × Line)) → AllGood sc s.live → ChargesNothing line → charge_in line ≡ 0 → Balanced sc past s t line
+pub nothing_balanced : (sc : Scenario) (past : List Entry) (s : Store) (t : ℕ) (line : Option (ℕ × Line)) → AllGood sc s.live → ChargesNothing line → charge_in line ≡ 0 → Balanced sc past s t line
 nothing_balanced sc past s t line good none zero_ =
     joined _ _ _ _ _ (each_same (ledger sc past) _ (length sc.flags) (λ u. sym (if_same (t == u) (charged s u (values.Task u) (ledger sc past u) line) (ledger sc past u) (none s u (values.Task u) (ledger sc past u)))))
     (live_same sc _ _ s.live good (λ l g. due_same sc past s t line none l.value)) zero_
@@ -92,7 +82,7 @@ no_times (l ∷ live) x f k =
     by_test false a y z n e = grind arith
 
 -- exactly one live value equals a live one
-live_once : (sc : Scenario) (live : List Alive) (k : ℕ) (x : Value) → times (equals x) live ≤ 1 → list_any (is_alive k x) live ≡ true → times (equals x) live ≡ 1
+pub live_once : (sc : Scenario) (live : List Alive) (k : ℕ) (x : Value) → times (equals x) live ≤ 1 → list_any (is_alive k x) live ≡ true → times (equals x) live ≡ 1
 live_once sc live k x most any = one_of _ most (at_least live any)
   where
     one_of : (n : ℕ) → n ≤ 1 → 1 ≤ n → n ≡ 1
@@ -108,7 +98,7 @@ live_once sc live k x most any = one_of _ most (at_least live any)
         by_test false false later g = let i : 1 ≤ times (equals x) live = later g in omega arith
 
 -- a live value names tasks of the scenario
-live_tasks : (sc : Scenario) (live : List Alive) (k : ℕ) (x : Value) → AllGood sc live → list_any (is_alive k x) live ≡ true → all_tasks sc (task_numbers x) ≡ true
+pub live_tasks : (sc : Scenario) (live : List Alive) (k : ℕ) (x : Value) → AllGood sc live → list_any (is_alive k x) live ≡ true → all_tasks sc (task_numbers x) ≡ true
 live_tasks sc [] k x good h = cc
 live_tasks sc (l ∷ live) k x good h =
     cases_bool (equal_values l.value x) (all_tasks sc (task_numbers x) ≡ true)
@@ -121,11 +111,10 @@ live_tasks sc (l ∷ live) k x good h =
 first_task : (a b : Bool) → (a && b) ≡ true → a ≡ true
 first_task a b e = grind arith
 
-abbrev charge_line : ℕ → ℕ → ℕ → ℕ → Option (ℕ × Line)
+abbrev pub charge_line : ℕ → ℕ → ℕ → ℕ → Option (ℕ × Line)
 charge_line phase u name n = Some (phase, record { task = u; call = calls.Charge name n })
 
 task_due : (sc : Scenario) (past : List Entry) (s : Store) (t phase u name n : ℕ) (x : Value) → bank_of (named_voucher s t name) ≡ Some (values.Task t) → account_due sc past x ≡ due_after sc past s t (charge_line phase u name n) x
-unfolding due_after
 task_due sc past s t phase u name n (values.Account a b) e = sym (ap (λ o. if equal_options o (Some (values.Account a b)) then due sc past (values.Account a b) + n else due sc past (values.Account a b)) e)
 task_due sc past s t phase u name n (values.User bytes) e = refl
 task_due sc past s t phase u name n (values.Chain list) e = refl
@@ -133,7 +122,7 @@ task_due sc past s t phase u name n values.Default e = refl
 task_due sc past s t phase u name n (values.Task v) e = refl
 
 -- a charge on the task's own value
-task_balanced : (sc : Scenario) (past : List Entry) (s : Store) (t phase u name n : ℕ) → AllGood sc s.live → is_task sc t ≡ true → bank_of (named_voucher s t name) ≡ Some (values.Task t)
+pub task_balanced : (sc : Scenario) (past : List Entry) (s : Store) (t phase u name n : ℕ) → AllGood sc s.live → is_task sc t ≡ true → bank_of (named_voucher s t name) ≡ Some (values.Task t)
     → Balanced sc past s t (charge_line phase u name n)
 task_balanced sc past s t phase u name n good task e =
     joined _ _ _ _ (each_same _ _ (length sc.flags) (λ v. at_task v (t == v) refl) ∙ each_more (ledger sc past) t n (length sc.flags) (task_range sc t task).0 (task_range sc t task).1)
@@ -157,7 +146,6 @@ task_balanced sc past s t phase u name n good task e =
 
 account_if : (sc : Scenario) (past : List Entry) (s : Store) (t phase u name n h m : ℕ) (x : Value) → bank_of (named_voucher s t name) ≡ Some (values.Account h m)
     → (if equal_values x (values.Account h m) then account_due sc past x + n else account_due sc past x) ≡ due_after sc past s t (charge_line phase u name n) x
-unfolding due_after
 account_if sc past s t phase u name n h m (values.Account a b) e =
     turned (equal_values (values.Account a b) (values.Account h m)) (equal_values (values.Account h m) (values.Account a b)) (due sc past (values.Account a b)) (flipped (values.Account a b) (values.Account h m))
     ∙ sym (ap (λ o. if equal_options o (Some (values.Account a b)) then due sc past (values.Account a b) + n else due sc past (values.Account a b)) e)
@@ -181,7 +169,7 @@ account_if sc past s t phase u name n h m values.Default e = refl
 account_if sc past s t phase u name n h m (values.Task v) e = refl
 
 -- a charge on an account
-account_balanced : (sc : Scenario) (past : List Entry) (s : Store) (t phase u name n h m : ℕ) → AllGood sc s.live → times (equals (values.Account h m)) s.live ≡ 1
+pub account_balanced : (sc : Scenario) (past : List Entry) (s : Store) (t phase u name n h m : ℕ) → AllGood sc s.live → times (equals (values.Account h m)) s.live ≡ 1
     → bank_of (named_voucher s t name) ≡ Some (values.Account h m) → Balanced sc past s t (charge_line phase u name n)
 account_balanced sc past s t phase u name n h m good once e =
     joined _ _ _ _ (times (equals (values.Account h m)) s.live) once (each_same (ledger sc past) _ (length sc.flags) (λ v. at_task v (t == v) refl))

@@ -1,34 +1,21 @@
 -- Sums over tasks: what is held equals what is out, and the accepted charges are in ledgers or due.
-use Rattle.std.proofs.Common.{◌≡◌, ℕ, zero, suc, ◌+◌, ◌-◌, ◌*◌, ◌≤◌, ◌<◌, Bool, List, [], ◌∷◌, ◌++◌, refl, true, false, not, ◌&&◌, ◌||◌, arith, sym, ap, ◌∙◌, subst, length, map, Some, None, Option, Ok, Err, Result, inl, inr}
-use Rattle.std.proofs.lemmas.List.Sums.{sum_by-cons, sum_by_push}
-use Rattle.std.specs.Prelude.{◌⊎◌, is_some, if◌then◌else◌, ◌==◌, nat_lt, ℤ, pos, slice_index}
-use Rattle.std.specs.List.{list_any, list_all, sum_by}
-use Rattle.vch_base.specs.Keys.{key_of}
-use Rattle.vch_base.specs.declared.key.Key.TheVariants as keys
+use Rattle.std.proofs.Common.{◌≡◌, ℕ, zero, suc, ◌+◌, ◌≤◌, ◌<◌, Bool, List, [], ◌∷◌, refl, true, false, ◌&&◌, arith, sym, ap, ◌∙◌, length}
+use Rattle.std.proofs.lemmas.List.Sums.{sum_by-cons}
+use Rattle.std.specs.Prelude.{if◌then◌else◌, ◌==◌, nat_lt, slice_index}
+use Rattle.std.specs.List.{list_all, sum_by}
 use Rattle.vch_base.specs.declared.value.Value.{Value}
 use Rattle.vch_base.specs.declared.value.Value.TheVariants as values
-use Rattle.vch_base.specs.Values.{equal_values, is_default, BelongsAt, task_numbers}
-use Rattle.vch_model.specs.declared.call.Call.{Call}
-use Rattle.vch_model.specs.declared.call.Call.TheVariants as calls
-use Rattle.vch_model.specs.declared.call.Line.{Line}
-use Rattle.vch_model.specs.declared.call.Word.{Word}
+use Rattle.vch_base.specs.Values.{task_numbers}
 use Rattle.vch_model.specs.declared.entry.Entry.{Entry}
-use Rattle.vch_model.specs.declared.entry.Entry.TheVariants as entries
-use Rattle.vch_model.specs.declared.entry.Reply.{Reply}
-use Rattle.vch_model.specs.declared.entry.Reply.TheVariants as replies
 use Rattle.vch_model.specs.declared.lists.Scenario.{Scenario}
-use Rattle.vch_model.specs.Voucher.{Voucher, equal_options}
-use Rattle.vch_model.specs.Store.{Store, Alive, is_alive, is_live}
-use Rattle.vch_model.specs.Lines.{is_task, line_at}
-use Rattle.vch_model.specs.After.{store_of, without_made}
-use Rattle.vch_model.specs.Totals.{is_done, named_voucher, bank_of, charged, due, ledger, held, out, weight, tasks_of, first_is, last_is, with_made, is_holder, due_of}
-use Rattle.vch_model.specs.Replies.{refused, charge_of, may_charge}
-use Rattle.vch_model.specs.Legal.{LegalPast, CanFollow, Answers, IsUnheld, find_made, all_tasks}
-use Rattle.vch_legal.specs.Facts.{bit, times}
-use Rattle.vch_legal.specs.Conserved.{each_task, charge_in, accepted, account_due, dues}
+use Rattle.vch_model.specs.Store.{Alive}
+use Rattle.vch_model.specs.Lines.{is_task}
+use Rattle.vch_model.specs.After.{store_of}
+use Rattle.vch_model.specs.Totals.{held, out, weight, tasks_of, first_is, last_is}
+use Rattle.vch_model.specs.Legal.{LegalPast, all_tasks}
+use Rattle.vch_legal.specs.Conserved.{each_task}
 use Rattle.vch_legal.proofs.EventSpots.{cases_bool}
-use Rattle.vch_legal.proofs.SeenHeld.{values_refl, values_eq}
-use Rattle.vch_legal.proofs.StoreLegal.{AliveGood, AllGood, equals, StoreFits, none_equal, legal_store, named_live}
+use Rattle.vch_legal.proofs.StoreLegal.{AliveGood, AllGood, legal_store}
 
 -- Sums over tasks.
 

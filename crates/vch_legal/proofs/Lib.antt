@@ -10,6 +10,7 @@ pub mod Forming
 pub mod FrameSpots
 pub mod Keeps
 pub mod LeaveSpots
+pub mod Ledgers
 pub mod LiveKeeps
 pub mod MakeSpots
 pub mod OwnTask

@@ -1,35 +1,19 @@
 -- Facts of the sequential store after every legal history: its live values belong to their keys, name tasks of the
 -- scenario and are different, and what a name or a message has is live.
-use Rattle.std.proofs.Common.{◌≡◌, ℕ, zero, suc, ◌+◌, ◌-◌, ◌≤◌, Bool, List, [], ◌∷◌, ◌++◌, refl, true, false, not, ◌&&◌, ◌||◌, arith, sym, ap, ◌∙◌, subst, length, map, get_or, Some, None, Option, Ok, Err, Result, inl, inr}
+use Rattle.std.proofs.Common.{◌≡◌, ℕ, zero, suc, ◌-◌, Bool, List, [], ◌∷◌, ◌++◌, refl, true, false, ◌||◌, arith, sym, ◌∙◌, subst, length, get_or, Some, None, Option, Ok, Err, Result, inl, inr}
 use Rattle.std.proofs.Math.ListN.{set}
 use Rattle.std.proofs.lemmas.List.Folds.{list_any-append}
-use Rattle.std.specs.Prelude.{◌⊎◌, is_some, if◌then◌else◌, ◌==◌, nat_lt, ℤ, pos}
+use Rattle.std.specs.Prelude.{◌⊎◌, if◌then◌else◌, ◌==◌, nat_lt, ℤ}
 use Rattle.std.specs.List.{list_any}
 use Rattle.vch_base.specs.declared.key.Key.{Key}
-use Rattle.vch_base.specs.declared.key.Key.TheVariants as keys
-use Rattle.vch_base.specs.Keys.{number_of, key_of}
 use Rattle.vch_base.specs.declared.value.Value.{Value}
-use Rattle.vch_base.specs.Values.{equal_values, is_default, BelongsAt, Belongs, task_numbers}
-use Rattle.vch_model.specs.declared.call.Call.{Call}
-use Rattle.vch_model.specs.declared.call.Call.TheVariants as calls
-use Rattle.vch_model.specs.declared.call.Line.{Line}
-use Rattle.vch_model.specs.declared.entry.Entry.{Entry}
-use Rattle.vch_model.specs.declared.entry.Entry.TheVariants as entries
-use Rattle.vch_model.specs.declared.entry.Reply.{Reply}
 use Rattle.vch_model.specs.declared.lists.Scenario.{Scenario}
-use Rattle.vch_base.specs.declared.flags.Flags.{Flags}
-use Rattle.vch_model.specs.Voucher.{Voucher, value_at, equal_options}
-use Rattle.vch_model.specs.Store.{Store, Member, Named, Message, Alive, nobody, start, member, set_member, voucher_of, name_of, one_more, one_less, with_name, given, has_value, message_has, is_held_at, is_held, is_held_by, is_alive, is_live, option_live, all_live}
-use Rattle.vch_model.specs.Eval.{create}
+use Rattle.vch_model.specs.Voucher.{Voucher}
+use Rattle.vch_model.specs.Store.{Store, Member, Named, Message, nobody, member, set_member, name_of, one_more, one_less, with_name, given, has_value, message_has, is_held_at}
 use Rattle.vch_model.specs.Transfer.{before, after}
-use Rattle.vch_model.specs.Lines.{is_task, line_at}
-use Rattle.vch_model.specs.After.{store_of, store_after_call, store_after_line, placed, queued, let_go, sent, taken_first, received, without_made, is_want}
-use Rattle.vch_model.specs.Totals.{named_voucher}
-use Rattle.vch_model.specs.Replies.{refused, reply_to}
-use Rattle.vch_model.specs.Legal.{LegalPast, CanFollow, Answers, IsAnswer, IsUnheld, find_made, all_tasks, voucher_given, voucher_made, voucher_received, voucher_sent, option_all_live}
-use Rattle.vch_legal.specs.Facts.{bit, times}
+use Rattle.vch_model.specs.After.{placed, queued, let_go, sent, taken_first, received}
+use Rattle.vch_model.specs.Legal.{voucher_made, voucher_received}
 use Rattle.vch_legal.proofs.EventSpots.{cases_bool}
-use Rattle.vch_legal.proofs.SeenHeld.{values_refl, values_eq}
 
 -- what a name or a message of a task has
 abbrev pub member_has : Key → Value → Member → Bool

@@ -1,7 +1,7 @@
 -- The facts of the sequential store after every legal history.
-use Rattle.std.proofs.Common.{◌≡◌, ℕ, zero, suc, ◌+◌, ◌-◌, ◌≤◌, Bool, List, [], ◌∷◌, ◌++◌, refl, true, false, not, ◌&&◌, ◌||◌, arith, sym, ap, ◌∙◌, subst, length, map, get_or, Some, None, Option, Ok, Err, Result, inl, inr}
+use Rattle.std.proofs.Common.{◌≡◌, ℕ, zero, suc, ◌+◌, ◌-◌, ◌≤◌, Bool, List, [], ◌∷◌, ◌++◌, refl, true, false, not, ◌&&◌, ◌||◌, arith, sym, ap, ◌∙◌, subst, length, map, get_or, Some, None, Option, inl, inr}
 use Rattle.std.proofs.lemmas.List.Folds.{list_any-append}
-use Rattle.std.specs.Prelude.{◌⊎◌, is_some, if◌then◌else◌, ◌==◌, nat_lt, ℤ, pos}
+use Rattle.std.specs.Prelude.{if◌then◌else◌, ◌==◌, nat_lt}
 use Rattle.std.specs.List.{list_any}
 use Rattle.vch_base.specs.declared.flags.Flags.{Flags}
 use Rattle.vch_base.specs.declared.key.Key.{Key}
@@ -18,18 +18,17 @@ use Rattle.vch_model.specs.declared.entry.Entry.{Entry}
 use Rattle.vch_model.specs.declared.entry.Entry.TheVariants as entries
 use Rattle.vch_model.specs.declared.entry.Reply.{Reply}
 use Rattle.vch_model.specs.declared.lists.Scenario.{Scenario}
-use Rattle.vch_model.specs.Voucher.{Voucher, value_at, equal_options}
-use Rattle.vch_model.specs.Store.{Store, Member, Named, Message, Alive, nobody, start, member, voucher_of, has_value, message_has, is_held_at, is_held, is_held_by, is_alive, is_live, option_live, all_live}
+use Rattle.vch_model.specs.Voucher.{Voucher, equal_options}
+use Rattle.vch_model.specs.Store.{Store, Member, Named, Alive, nobody, member, voucher_of, has_value, message_has, is_held_at, is_held, is_held_by, is_alive, is_live, option_live}
 use Rattle.vch_model.specs.Eval.{create}
 use Rattle.vch_model.specs.Lines.{is_task, line_at}
 use Rattle.vch_model.specs.After.{store_of, store_after, store_after_call, store_after_line, queued, sent, without_made, is_want}
 use Rattle.vch_model.specs.Totals.{named_voucher}
-use Rattle.vch_model.specs.Replies.{refused, reply_to}
-use Rattle.vch_model.specs.Legal.{LegalPast, CanFollow, Answers, IsAnswer, IsUnheld, find_made, all_tasks, voucher_given, voucher_sent, option_all_live, may_want}
+use Rattle.vch_model.specs.Legal.{LegalPast, CanFollow, Answers, IsAnswer, IsUnheld, find_made, all_tasks, voucher_given, voucher_sent, option_all_live}
 use Rattle.vch_legal.specs.Facts.{bit, times}
 use Rattle.vch_legal.proofs.EventSpots.{cases_bool}
-use Rattle.vch_legal.proofs.SeenHeld.{values_refl, values_eq}
-use Rattle.vch_legal.proofs.StoreKeeps.{Gives, gives_self, let_go_gives, queued_gives, placed_gives, received_gives, sent_gives, or_case, or_left, or_right, member_has, names_have, queue_has}
+use Rattle.vch_legal.proofs.SeenHeld.{values_eq}
+use Rattle.vch_legal.proofs.StoreKeeps.{Gives, gives_self, let_go_gives, queued_gives, placed_gives, received_gives, sent_gives, or_case, or_left, or_right, member_has, names_have}
 
 sent_full : (s : Store) (t to : ℕ) (moving : Bool) (name id : ℕ) (v : Option Voucher) → nat_lt (length (member s to).queue) 5 ≡ false → sent s t to moving name id v ≡ s
 sent_full s t to moving name id None e = refl
@@ -211,7 +210,7 @@ made_keeps sc s k n x b tasks absent h = record {
 
 -- Released
 
-good_without : (sc : Scenario) (live : List Alive) (e : ℕ) → AllGood sc live → AllGood sc (without_made live e)
+pub good_without : (sc : Scenario) (live : List Alive) (e : ℕ) → AllGood sc live → AllGood sc (without_made live e)
 good_without sc [] e good = tt
 good_without sc (l ∷ live) e good = by_test (l.made == e) (good_without sc live e good.1)
   where
@@ -279,8 +278,8 @@ released_keeps sc s e (Some l) f u h = record {
     other : (k : Key) (x : Value) → is_held_at s k x ≡ true → is_alive (number_of k) x l ≡ false
     other k x g = cases_bool (is_alive (number_of k) x l) (is_alive (number_of k) x l ≡ false)
         (λ same. absurd (clash (is_held s l.key l.value)
-          (ap (λ n. is_held_by s (key_of n) l.value) (is_number l.key (number_of k) (first_part (l.key == number_of k) (equal_values l.value x) same))
-          ∙ (ap (λ o. is_held_by s o l.value) (key_of_number k) ∙ (ap (λ y. is_held_at s k y) (values_eq l.value x (second_part (l.key == number_of k) (equal_values l.value x) same)) ∙ g))) u))
+        (ap (λ n. is_held_by s (key_of n) l.value) (is_number l.key (number_of k) (first_part (l.key == number_of k) (equal_values l.value x) same))
+        ∙ (ap (λ o. is_held_by s o l.value) (key_of_number k) ∙ (ap (λ y. is_held_at s k y) (values_eq l.value x (second_part (l.key == number_of k) (equal_values l.value x) same)) ∙ g))) u))
         (λ no_. no_)
 
 -- after every legal history
@@ -313,6 +312,12 @@ legal_store sc [] h = record { good = tt; once = λ x. none_yet; held = λ k x e
     none_yet : 0 ≤ 1
     none_yet = omega arith
 legal_store sc (entry ∷ past) h = entry_keeps sc past (store_of sc past) (length past) entry h.1 (legal_store sc past h.0)
+
+-- a call leaves the live values
+pub call_live : (sc : Scenario) (s : Store) (t : ℕ) (line : Option (ℕ × Line)) (b : Bool) → (if b then s else store_after_line sc s t line).live ≡ s.live
+call_live sc s t line true = refl
+call_live sc s t None false = refl
+call_live sc s t (Some l) false = (call_gives sc s t l.1.call).live
 
 -- a value of a named voucher is held
 member_at : (p : Member → Bool) (xs : List Member) (i : ℕ) → p nobody ≡ false → p (get_or xs i nobody) ≡ true → list_any p xs ≡ true

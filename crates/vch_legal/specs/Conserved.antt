@@ -1,6 +1,6 @@
 -- Sums over all tasks of a scenario, the accepted charges of a history, and what is due on live accounts. A history is
 -- given with its newest entry first.
-use Rattle.std.specs.Prelude.{ℕ, zero, suc, ◌+◌, Bool, true, false, if◌then◌else◌, List, [], ◌∷◌, Option, Some, None}
+use Rattle.std.specs.Prelude.{ℕ, zero, suc, ◌+◌, if◌then◌else◌, List, [], ◌∷◌, Option, Some, None}
 use Rattle.std.specs.List.{sum_by}
 use Rattle.vch_base.specs.declared.value.Value.{Value}
 use Rattle.vch_base.specs.declared.value.Value.TheVariants as values

@@ -7,7 +7,11 @@
 //! while it is asked to be released. The facts of one handle (`spot_fits`) say what such a moment can look like.
 #![tactic(auto)]
 
-ghost use Rattle.std.specs.Prelude.{◌≡◌, ◌≤◌, ℕ, Bool, List, Option, Some};
+ghost use Rattle.std.specs.Prelude.{◌≡◌, ◌≤◌, ◌+◌, ℕ, Bool, List, length, Option, Some};
+ghost use Rattle.vch_model.specs.declared.entry.Entry.{Entry};
+ghost use Rattle.vch_model.specs.Legal.{LegalPast};
+ghost use Rattle.vch_model.specs.Totals.{held, out, ledger};
+ghost use Rattle.vch_legal.specs.Conserved.{each_task, accepted, dues};
 ghost use Rattle.vch_model.specs.declared.lists.Scenario.{Scenario};
 ghost use Rattle.vch_machine.specs.State.{Machine, start};
 ghost use Rattle.vch_machine.specs.Events.{event, phase_event};
@@ -38,4 +42,16 @@ pub fn run_fits()
 #[tactic(auto, using(crate::proofs::Keeps::asks_at_most))]
 pub fn asks_are_at_most_refers()
     ensures { (sc : Scenario) (moves : List Move) (n : Machine) → run_from_start sc moves ≡ Some n → n.tally.asks ≤ n.tally.refers }
+{}
+
+/// A law: after every legal history, the assertions that all tasks hold add up to those that all tasks gave.
+#[tactic(auto, using(crate::proofs::Conservation::held_is_out))]
+pub fn held_is_out()
+    ensures { (sc : Scenario) (past : List Entry) → LegalPast sc past → each_task (held sc past) (length sc.flags) ≡ each_task (out sc past) (length sc.flags) }
+{}
+
+/// A law: after every legal history, the accepted charges add up to all ledgers and all that is due on live accounts.
+#[tactic(auto, using(crate::proofs::Ledgers::charges_are_kept))]
+pub fn charges_are_kept()
+    ensures { (sc : Scenario) (past : List Entry) → LegalPast sc past → accepted sc past ≡ each_task (ledger sc past) (length sc.flags) + dues sc past }
 {}
