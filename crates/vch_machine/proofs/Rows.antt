@@ -12,6 +12,7 @@ use Rattle.vch_model.specs.Eval.{create, eval_all}
 use Rattle.vch_model.specs.Replies.{refused}
 use Rattle.vch_machine.specs.Events.{event, phase_event}
 use Rattle.vch_machine.specs.Schedules.{in_turn, by_seed}
+use Rattle.vch_machine.proofs.FullList.{full_list}
 use Rattle.vch_machine.specs.Worked.{Worked, ab, cd, self, bank, remove, redeem_all, cut, by, plain, donor, receiver, both, scenario, turn, seeded, order, last, made_ab, made_cd, chain, dropping}
 
 last_name : turn 20 (scenario (plain ∷ []) (by 1 (calls.Create ab) ∷ by 1 (calls.GiveUp 1) ∷ []))
@@ -146,6 +147,7 @@ large_charges = refl
 
 pub worked : Worked
 worked = record {
+  full_list = full_list;
   last_name = last_name;
   equal_vouchers = equal_vouchers;
   cut_record = cut_record;

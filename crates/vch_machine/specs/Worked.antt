@@ -99,6 +99,24 @@ chain list = entries.Made 2 (values.Chain list)
 abbrev pub dropping : List Line → Scenario
 dropping lines = scenario (plain ∷ plain ∷ []) (by 1 (calls.Create ab) ∷ by 1 (calls.GiveUp 1) ∷ lines)
 
+-- from each task to the next, up to a number: send and recv of name 1
+abbrev pub passed_on : List Line
+passed_on =
+    by 1 (calls.Send 2 false 1 1) ∷ by 2 calls.Recv ∷ by 2 (calls.Send 3 false 1 1) ∷ by 3 calls.Recv ∷ by 3 (calls.Send 4 false 1 1) ∷ by 4 calls.Recv
+    ∷ by 4 (calls.Send 5 false 1 1) ∷ by 5 calls.Recv ∷ by 5 (calls.Send 6 false 1 1) ∷ by 6 calls.Recv ∷ by 6 (calls.Send 7 false 1 1) ∷ by 7 calls.Recv
+    ∷ by 7 (calls.Send 8 false 1 1) ∷ by 8 calls.Recv ∷ by 8 (calls.Send 9 false 1 1) ∷ by 9 calls.Recv ∷ []
+
+-- nine tasks, and what the last four calls give: the ninth gets a list of eight, of which it is not the last
+abbrev pub nine_tasks : Scenario
+nine_tasks = scenario (both ∷ both ∷ both ∷ both ∷ both ∷ both ∷ both ∷ both ∷ both ∷ []) (
+    by 1 (calls.Create self) ∷ passed_on ++ by 9 (calls.Extract 1 2) ∷ by 9 (calls.Extern 1 true 1) ∷ by 9 calls.Assertions ∷ by 8 calls.Assertions ∷ [])
+
+abbrev pub full_list_end : List Entry
+full_list_end =
+    entries.Call 9 2 words.Extract (replies.Content (1 ∷ 0 ∷ 0 ∷ 0 ∷ 2 ∷ 0 ∷ 0 ∷ 0 ∷ 3 ∷ 0 ∷ 0 ∷ 0 ∷ 4 ∷ 0 ∷ 0 ∷ 0 ∷ 5 ∷ 0 ∷ 0 ∷ 0 ∷ 6 ∷ 0 ∷ 0 ∷ 0 ∷ 7 ∷ 0 ∷ 0 ∷ 0 ∷ 8 ∷ 0 ∷ 0 ∷ 0 ∷ []))
+    ∷ entries.Call 9 3 words.Extern (refused (pos 4)) ∷ entries.Call 9 4 words.Assertions (replies.Assertions 0 0)
+    ∷ entries.Call 8 3 words.Assertions (replies.Assertions 1 0) ∷ entries.Phase ∷ []
+
 -- what each scenario gives
 pub record Worked : Type 0 where
   -- the last name is dropped, and the value is released
@@ -135,6 +153,8 @@ pub record Worked : Type 0 where
     ∷ entries.Call 3 2 words.Assertions (replies.Assertions 1 0) ∷ entries.Call 2 4 words.GiveUp replies.Done ∷ entries.Released 4
     ∷ entries.Call 1 4 words.Assertions (replies.Assertions 0 1) ∷ entries.Call 3 3 words.GiveUp replies.Done ∷ entries.Released 7
     ∷ entries.Call 1 5 words.GiveUp replies.Done ∷ entries.Released 1 ∷ entries.Phase ∷ []
+  -- a list of eight grows no more; the last four calls
+  pub full_list : last 5 (turn 120 nine_tasks) ≡ full_list_end
   -- charges go to an account, and to its holder's ledger where the account is released
   pub charges : turn 80 (scenario (plain ∷ plain ∷ plain ∷ []) (
     by 1 (calls.Create bank) ∷ by 1 (calls.Send 2 false 1 7) ∷ by 2 calls.Recv ∷ by 2 (calls.Charge 1 70) ∷ by 2 (calls.Charge 1 5)
