@@ -1,22 +1,19 @@
 -- A list of eight grows no more: nine tasks pass a voucher on, run by the machine in parts.
-use Rattle.std.proofs.Common.{◌≡◌, ℕ, zero, suc, ◌+◌, ◌-◌, ◌*◌, Bool, List, [], ◌∷◌, ◌++◌, refl, Some, None, Option, true, false, map, drop, length, arith, sym, ap, ◌∙◌, subst}
-use lib.IntN.{pos}
-use Rattle.std.specs.Prelude.{if◌then◌else◌, ◌==◌, nat_lt, reverse, slice_index_or}
+use Rattle.std.proofs.Common.{◌≡◌, ℕ, zero, suc, ◌+◌, ◌-◌, ◌*◌, Bool, List, [], ◌∷◌, ◌++◌, refl, Some, None, Option, true, false, map, length, arith, ap, ◌∙◌}
+use Rattle.std.specs.Prelude.{if◌then◌else◌, ◌==◌, nat_lt, reverse}
 use Rattle.vch_base.specs.declared.key.Key.TheVariants as keys
 use Rattle.vch_base.specs.declared.value.Value.TheVariants as values
 use Rattle.vch_base.specs.Words.{word}
 use Rattle.vch_recipe.specs.Recipes.{word_at}
-use Rattle.vch_model.specs.declared.call.Call.TheVariants as calls
 use Rattle.vch_model.specs.declared.call.Word.TheVariants as words
 use Rattle.vch_model.specs.declared.entry.Entry.{Entry}
 use Rattle.vch_model.specs.declared.entry.Entry.TheVariants as entries
 use Rattle.vch_model.specs.declared.entry.Reply.TheVariants as replies
 use Rattle.vch_model.specs.declared.lists.Scenario.{Scenario}
 use Rattle.vch_model.specs.Eval.{create, eval_all}
-use Rattle.vch_model.specs.Replies.{refused}
 use Rattle.vch_machine.specs.State.{Machine, Tasked, Living, idle, start, default_living}
 use Rattle.vch_machine.specs.Events.{event, phase_event, numbers}
-use Rattle.vch_machine.specs.Schedules.{Move, in_turn, happens, has_ended, turn_task, lowest_open, move_of, run, past_of}
+use Rattle.vch_machine.specs.Schedules.{in_turn, happens, has_ended, turn_task, lowest_open, move_of, run, past_of}
 use Rattle.vch_machine.specs.Worked.{ample, last, turn, nine_tasks, full_list_end}
 
 -- the state after some moves in turn

@@ -1,11 +1,10 @@
 -- The worked scenarios, run by the machine.
-use Rattle.std.proofs.Common.{◌≡◌, ℕ, Bool, List, [], ◌∷◌, ◌++◌, refl, Some, None, Option, true, false, map, drop, length, ◌-◌}
+use Rattle.std.proofs.Common.{◌≡◌, [], ◌∷◌, ◌++◌, refl, true, false}
 use lib.IntN.{pos}
 use Rattle.vch_base.specs.declared.value.Value.TheVariants as values
 use Rattle.vch_recipe.specs.Recipes.{word_at}
 use Rattle.vch_model.specs.declared.call.Call.TheVariants as calls
 use Rattle.vch_model.specs.declared.call.Word.TheVariants as words
-use Rattle.vch_model.specs.declared.entry.Entry.{Entry}
 use Rattle.vch_model.specs.declared.entry.Entry.TheVariants as entries
 use Rattle.vch_model.specs.declared.entry.Reply.TheVariants as replies
 use Rattle.vch_model.specs.Eval.{create, eval_all}
@@ -13,7 +12,7 @@ use Rattle.vch_model.specs.Replies.{refused}
 use Rattle.vch_machine.specs.Events.{event, phase_event}
 use Rattle.vch_machine.specs.Schedules.{in_turn, by_seed}
 use Rattle.vch_machine.proofs.FullList.{full_list}
-use Rattle.vch_machine.specs.Worked.{Worked, ab, cd, self, bank, remove, redeem_all, cut, by, plain, donor, receiver, both, scenario, turn, seeded, order, last, made_ab, made_cd, chain, dropping}
+use Rattle.vch_machine.specs.Worked.{Worked, ab, cd, self, bank, remove, redeem_all, cut, by, plain, donor, receiver, scenario, turn, seeded, order, last, made_ab, made_cd, chain, dropping}
 
 last_name : turn 20 (scenario (plain ∷ []) (by 1 (calls.Create ab) ∷ by 1 (calls.GiveUp 1) ∷ []))
     ≡ made_ab ∷ entries.Call 1 1 words.Create (replies.Created 1) ∷ entries.Call 1 2 words.GiveUp replies.Done ∷ entries.Released 1 ∷ entries.Phase ∷ []
@@ -102,9 +101,12 @@ turn_create : turn 20 (scenario (plain ∷ plain ∷ []) (by 1 (calls.Create [])
 unfolding event phase_event create eval_all word_at in_turn
 turn_create = refl
 
-client_and_service : turn 80 (record { flags = donor ∷ receiver ∷ []; phases = (
-    by 1 (calls.Create (bank ++ self ++ ab)) ∷ by 1 (calls.Send 2 false 1 9) ∷ by 1 (calls.GiveUp 1) ∷ by 2 calls.Recv
-    ∷ by 2 (calls.Charge 1 1200) ∷ by 2 calls.Assertions ∷ by 2 (calls.GiveUp 1) ∷ []) ∷ (by 1 calls.Ledger ∷ []) ∷ [] })
+client_and_service : turn 80 (record {
+  flags = donor ∷ receiver ∷ [];
+  phases = (
+      by 1 (calls.Create (bank ++ self ++ ab)) ∷ by 1 (calls.Send 2 false 1 9) ∷ by 1 (calls.GiveUp 1) ∷ by 2 calls.Recv
+      ∷ by 2 (calls.Charge 1 1200) ∷ by 2 calls.Assertions ∷ by 2 (calls.GiveUp 1) ∷ []) ∷ (by 1 calls.Ledger ∷ []) ∷ [];
+})
     ≡ chain (1 ∷ []) ∷ made_ab ∷ entries.Call 1 1 words.Create (replies.Created 1) ∷ entries.Made 3 (values.Task 1)
     ∷ entries.Call 1 2 words.Send replies.Done ∷ entries.Call 1 3 words.GiveUp replies.Done ∷ chain (1 ∷ 2 ∷ [])
     ∷ entries.Made 3 (values.Account 1 2) ∷ entries.Call 2 1 words.Recv (replies.Received 1 9 1) ∷ entries.Released 1 ∷ entries.Released 4

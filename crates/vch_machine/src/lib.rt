@@ -37,5 +37,4 @@ pub fn others_next()
 #[tactic(auto, using(crate::proofs::Rows::worked))]
 pub fn worked_scenarios()
     ensures { Worked }
-{
-}
+{}
