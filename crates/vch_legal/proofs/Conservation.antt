@@ -21,7 +21,8 @@ use Rattle.vch_legal.proofs.StoreLegal.{AliveGood, AllGood, legal_store}
 
 pub each_same : (f g : ℕ → ℕ) (n : ℕ) → ((t : ℕ) → f t ≡ g t) → each_task f n ≡ each_task g n
 each_same f g zero h = refl
-each_same f g (suc n) h = let i : each_task f n ≡ each_task g n = each_same f g n h in let k : f (suc n) ≡ g (suc n) = h (suc n) in cc
+each_same f g (suc n) h = let i : each_task f n ≡ each_task g n = each_same f g n h in let k : f (suc n) ≡ g (suc n) =
+    h (suc n) in cc
 
 -- one task has more
 above : (f : ℕ → ℕ) (y k n : ℕ) → n < y → each_task (λ t. if y == t then f t + k else f t) n ≡ each_task f n
@@ -33,12 +34,15 @@ above f y k (suc n) l =
     apart : (a b : ℕ) → b < a → (a == b) ≡ false
     apart a b h = grind arith
 
-pub each_more : (f : ℕ → ℕ) (y k n : ℕ) → 1 ≤ y → y ≤ n → each_task (λ t. if y == t then f t + k else f t) n ≡ each_task f n + k
+pub each_more : (f : ℕ → ℕ) (y k n : ℕ) → 1 ≤ y → y ≤ n → each_task (λ t. if y == t then f t + k else f t) n
+    ≡ each_task f n + k
 each_more f y k zero l h = absurd (omega arith)
 each_more f y k (suc n) l h =
     cases_bool (y == suc n) (each_task (λ t. if y == t then f t + k else f t) (suc n) ≡ each_task f (suc n) + k)
-    (λ here. let i : each_task (λ t. if y == t then f t + k else f t) n ≡ each_task f n = above f y k n (below y n here) in rw here (moved _ _ (f (suc n)) i))
-    (λ other. let i : each_task (λ t. if y == t then f t + k else f t) n ≡ each_task f n + k = each_more f y k n l (within y n h other) in rw other (added _ _ (f (suc n)) i))
+    (λ here. let i : each_task (λ t. if y == t then f t + k else f t) n ≡ each_task f n = above f y k n
+    (below y n here) in rw here (moved _ _ (f (suc n)) i))
+    (λ other. let i : each_task (λ t. if y == t then f t + k else f t) n ≡ each_task f n + k = each_more f y k n l
+    (within y n h other) in rw other (added _ _ (f (suc n)) i))
   where
     below : (y n : ℕ) → (y == suc n) ≡ true → n < y
     below y n e = grind arith
@@ -66,8 +70,11 @@ task_range sc t h = (from t (length sc.flags) h, upto t (length sc.flags) h)
     upto : (t n : ℕ) → (nat_lt 0 t && nat_lt t (n + 1)) ≡ true → t ≤ n
     upto t n e = grind arith
 
-each_pick : (sc : Scenario) (y w : ℕ) → is_task sc y ≡ true → each_task (λ t. if y == t then w else 0) (length sc.flags) ≡ w
-each_pick sc y w h = each_same _ _ (length sc.flags) (λ t. plain (y == t)) ∙ picked (each_more (λ _. 0) y w (length sc.flags) (task_range sc y h).0 (task_range sc y h).1) (each_zero (length sc.flags))
+each_pick : (sc : Scenario) (y w : ℕ) → is_task sc y ≡ true → each_task (λ t. if y == t then w else 0)
+    (length sc.flags) ≡ w
+each_pick sc y w h = each_same _ _ (length sc.flags) (λ t. plain (y == t))
+    ∙ picked (each_more (λ _. 0) y w (length sc.flags) (task_range sc y h).0 (task_range sc y h).1)
+    (each_zero (length sc.flags))
   where
     plain : (b : Bool) → (if b then w else 0) ≡ (if b then 0 + w else 0)
     plain true = omega arith
@@ -78,7 +85,8 @@ each_pick sc y w h = each_same _ _ (length sc.flags) (λ t. plain (y == t)) ∙ 
 
 -- Sums over live values.
 
-pub live_same : (sc : Scenario) (f g : Alive → ℕ) (live : List Alive) → AllGood sc live → ((l : Alive) → AliveGood sc l → f l ≡ g l) → sum_by f live ≡ sum_by g live
+pub live_same : (sc : Scenario) (f g : Alive → ℕ) (live : List Alive) → AllGood sc live
+    → ((l : Alive) → AliveGood sc l → f l ≡ g l) → sum_by f live ≡ sum_by g live
 live_same sc f g [] good h = refl
 live_same sc f g (l ∷ live) good h =
     let i : sum_by f live ≡ sum_by g live = live_same sc f g live good.1 h in let k : f l ≡ g l = h l good.0 in
@@ -87,23 +95,28 @@ live_same sc f g (l ∷ live) good h =
 plus_sums : (f g : Alive → ℕ) (live : List Alive) → sum_by f live + sum_by g live ≡ sum_by (λ l. f l + g l) live
 plus_sums f g [] = refl
 plus_sums f g (l ∷ live) =
-    rw (sum_by-cons f l live, sum_by-cons g l live, sum_by-cons (λ x. f x + g x) l live) (regrouped (f l) (g l) (sum_by f live) (sum_by g live) (sum_by (λ x. f x + g x) live) (plus_sums f g live))
+    rw (sum_by-cons f l live, sum_by-cons g l live, sum_by-cons (λ x. f x + g x) l live)
+    (regrouped (f l) (g l) (sum_by f live) (sum_by g live) (sum_by (λ x. f x + g x) live) (plus_sums f g live))
   where
     regrouped : (a b x y z : ℕ) → x + y ≡ z → (a + x) + (b + y) ≡ (a + b) + z
     regrouped a b x y z e = omega arith
 
 zero_sum : (live : List Alive) → 0 ≡ sum_by (λ (l : Alive). 0) live
 zero_sum [] = refl
-zero_sum (l ∷ live) = let i : 0 ≡ sum_by (λ (x : Alive). 0) live = zero_sum live in rw (sum_by-cons (λ (x : Alive). 0) l live) (omega arith)
+zero_sum (l ∷ live) = let i : 0 ≡ sum_by (λ (x : Alive). 0) live =
+    zero_sum live in rw (sum_by-cons (λ (x : Alive). 0) l live) (omega arith)
 
-swapped : (f : ℕ → Alive → ℕ) (live : List Alive) (n : ℕ) → each_task (λ t. sum_by (f t) live) n ≡ sum_by (λ l. each_task (λ t. f t l) n) live
+swapped : (f : ℕ → Alive → ℕ) (live : List Alive) (n : ℕ) → each_task (λ t. sum_by (f t) live) n ≡ sum_by
+    (λ l. each_task (λ t. f t l) n) live
 swapped f live zero = zero_sum live
 swapped f live (suc n) =
-    ap (λ a. a + sum_by (f (suc n)) live) (swapped f live n) ∙ plus_sums (λ l. each_task (λ t. f t l) n) (f (suc n)) live
+    ap (λ a. a + sum_by (f (suc n)) live) (swapped f live n)
+    ∙ plus_sums (λ l. each_task (λ t. f t l) n) (f (suc n)) live
 
 -- What is held, and what is out.
 
-last_task : (sc : Scenario) (list : List ℕ) (x : ℕ) → list_all (is_task sc) (x ∷ list) ≡ true → is_task sc (slice_index (x ∷ list) (length list)) ≡ true
+last_task : (sc : Scenario) (list : List ℕ) (x : ℕ) → list_all (is_task sc) (x ∷ list) ≡ true
+    → is_task sc (slice_index (x ∷ list) (length list)) ≡ true
 last_task sc [] x h = first_part (is_task sc x) true h
   where
     first_part : (a b : Bool) → (a && b) ≡ true → a ≡ true
@@ -114,14 +127,17 @@ last_task sc (y ∷ list) x h = last_task sc list y (second_part (is_task sc x) 
     second_part a b e = grind arith
 
 list_once : (sc : Scenario) (list : List ℕ) (w : ℕ) → list_all (is_task sc) list ≡ true
-    → each_task (λ t. if last_is t list then w else 0) (length sc.flags) ≡ each_task (λ t. if first_is t list then w else 0) (length sc.flags)
+    → each_task (λ t. if last_is t list then w else 0) (length sc.flags) ≡ each_task
+    (λ t. if first_is t list then w else 0) (length sc.flags)
 list_once sc [] w h = refl
-list_once sc (x ∷ list) w h = each_pick sc (slice_index (x ∷ list) (length list)) w (last_task sc list x h) ∙ sym (each_pick sc x w (first_part (is_task sc x) (list_all (is_task sc) list) h))
+list_once sc (x ∷ list) w h = each_pick sc (slice_index (x ∷ list) (length list)) w (last_task sc list x h)
+    ∙ sym (each_pick sc x w (first_part (is_task sc x) (list_all (is_task sc) list) h))
   where
     first_part : (a b : Bool) → (a && b) ≡ true → a ≡ true
     first_part a b e = grind arith
 
-tasks_good : (sc : Scenario) (x : Value) → all_tasks sc (task_numbers x) ≡ true → list_all (is_task sc) (tasks_of x) ≡ true
+tasks_good : (sc : Scenario) (x : Value) → all_tasks sc (task_numbers x) ≡ true
+    → list_all (is_task sc) (tasks_of x) ≡ true
 tasks_good sc (values.User bytes) h = refl
 tasks_good sc (values.Chain list) h = by_length (nat_lt 1 (length list))
   where
@@ -133,8 +149,12 @@ tasks_good sc (values.Task t) h = refl
 tasks_good sc (values.Account a b) h = refl
 
 -- the assertions that tasks hold are those that tasks gave
-pub held_is_out : (sc : Scenario) (past : List Entry) → LegalPast sc past → each_task (held sc past) (length sc.flags) ≡ each_task (out sc past) (length sc.flags)
+pub held_is_out : (sc : Scenario) (past : List Entry) → LegalPast sc past
+    → each_task (held sc past) (length sc.flags) ≡ each_task (out sc past) (length sc.flags)
 held_is_out sc past h =
-    swapped (λ t l. if last_is t (tasks_of l.value) then weight sc past l.value else 0) (store_of sc past).live (length sc.flags)
-    ∙ (live_same sc _ _ (store_of sc past).live (legal_store sc past h).good (λ l good. list_once sc (tasks_of l.value) (weight sc past l.value) (tasks_good sc l.value good.tasks))
-    ∙ sym (swapped (λ t l. if first_is t (tasks_of l.value) then weight sc past l.value else 0) (store_of sc past).live (length sc.flags)))
+    swapped (λ t l. if last_is t (tasks_of l.value) then weight sc past l.value else 0) (store_of sc past).live
+    (length sc.flags)
+    ∙ (live_same sc _ _ (store_of sc past).live (legal_store sc past h).good
+    (λ l good. list_once sc (tasks_of l.value) (weight sc past l.value) (tasks_good sc l.value good.tasks))
+    ∙ sym (swapped (λ t l. if first_is t (tasks_of l.value) then weight sc past l.value else 0)
+    (store_of sc past).live (length sc.flags)))

@@ -1,4 +1,5 @@
 pub mod AskSpots
+pub mod BeginOwn
 pub mod BeginSpots
 pub mod Burdens
 pub mod Cases

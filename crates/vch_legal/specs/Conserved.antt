@@ -32,7 +32,8 @@ charge_in (Some l) = of_call l.1.call
 -- the sum of all charges that were accepted
 abbrev pub accepted : Scenario → List Entry → ℕ
 accepted sc [] = 0
-accepted sc (entries.Call t n w reply ∷ past) = if is_done reply then accepted sc past + charge_in (line_at sc t n) else accepted sc past
+accepted sc (entries.Call t n w reply ∷ past) = if is_done reply then accepted sc past + charge_in
+    (line_at sc t n) else accepted sc past
 accepted sc (entry ∷ past) = accepted sc past
 
 -- what is due on a value that is an account

@@ -20,7 +20,8 @@ use Rattle.vch_machine.specs.Worked.{ample, last, turn, nine_tasks, full_list_en
 turned : ℕ → Scenario → Option Machine → Option Machine
 turned zero sc o = o
 turned (suc n) sc None = None
-turned (suc n) sc (Some m) = if has_ended sc m then None else turned n sc (happens sc m (move_of ample 0 (turn_task sc m (lowest_open m (numbers (length sc.flags))))))
+turned (suc n) sc (Some m) = if has_ended sc m then None else turned n sc
+    (happens sc m (move_of ample 0 (turn_task sc m (lowest_open m (numbers (length sc.flags))))))
 
 add_suc : (a b : ℕ) → suc a + b ≡ suc (a + b)
 add_suc a b = omega arith
@@ -35,14 +36,17 @@ goes_on zero b sc o n e = rw e (ap (λ k. run sc (in_turn k ample sc (Some n)) (
     none b = omega arith
 goes_on (suc a) b sc None n e = cc
 goes_on (suc a) b sc (Some m) n e =
-    ap (λ k. run sc (in_turn k ample sc (Some m)) (Some m)) (add_suc a b) ∙ by_end (has_ended sc m) (λ g. goes_on a b sc next n g) e
+    ap (λ k. run sc (in_turn k ample sc (Some m)) (Some m)) (add_suc a b)
+    ∙ by_end (has_ended sc m) (λ g. goes_on a b sc next n g) e
   where
     next : Option Machine
     next = happens sc m (move_of ample 0 (turn_task sc m (lowest_open m (numbers (length sc.flags)))))
 
-    by_end : (c : Bool) → (turned a sc next ≡ Some n → run sc (in_turn (a + b) ample sc next) next ≡ run sc (in_turn b ample sc (Some n)) (Some n))
+    by_end : (c : Bool) → (turned a sc next ≡ Some n → run sc (in_turn (a + b) ample sc next) next ≡ run sc
+        (in_turn b ample sc (Some n)) (Some n))
         → (if c then None else turned a sc next) ≡ Some n
-        → run sc (if c then [] else (move_of ample (a + b) (turn_task sc m (lowest_open m (numbers (length sc.flags)))) ∷ in_turn (a + b) ample sc next)) (Some m)
+        → run sc (if c then [] else (move_of ample (a + b) (turn_task sc m
+        (lowest_open m (numbers (length sc.flags)))) ∷ in_turn (a + b) ample sc next)) (Some m)
         ≡ run sc (in_turn b ample sc (Some n)) (Some n)
     by_end true later g = cc
     by_end false later g = later g
@@ -50,7 +54,12 @@ goes_on (suc a) b sc (Some m) n e =
 -- The state once the voucher was passed on some times.
 
 living : ℕ → Living
-living k = record { place = record { key = keys.Importance; handle = k }; value = values.Chain (numbers (k + 1)); made = 3 * k + 1 }
+living k = record {
+  place = record { key = keys.Importance; handle = k };
+  value = values.Chain
+      (numbers (k + 1));
+  made = 3 * k + 1;
+}
 
 live_after : ℕ → List Living
 live_after zero = default_living ∷ living 0 ∷ []
@@ -60,7 +69,8 @@ task_after : ℕ → ℕ → Tasked
 task_after k i =
     if nat_lt (k + 1) i then idle
     else record {
-      names = record { name = 1; voucher = record { importance = Some (i - 1); bank = None; user = None }; refs = 1 } ∷ [];
+      names = record { name = 1; voucher = record { importance = Some (i - 1); bank = None; user = None }; refs = 1 }
+          ∷ [];
       next = 2;
       queue = [];
       begun = if i == k + 1 then 1 else 2;
@@ -76,7 +86,12 @@ past_after (suc k) =
 after : ℕ → Machine
 after k = record {
   live = live_after k;
-  pools = record { importance = record { free = []; used = k + 1 }; bank = record { free = []; used = 1 }; user = record { free = []; used = 0 } };
+  pools = record {
+    importance = record { free = []; used = k + 1 };
+    bank = record { free = []; used = 1 };
+    user =
+        record { free = []; used = 0 };
+  };
   tasks = map (task_after k) (numbers 9);
   past = past_after k;
   tally = record { claims = 0; refers = k + 1; asks = 0 };
