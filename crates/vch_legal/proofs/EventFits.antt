@@ -140,10 +140,10 @@ same_answer : (o : Option Claim) (c d : Claim) (b : Bool) → o ≡ Some c → o
 same_answer o c d b x y z = let k : c ≡ d = cc in subst (λ (a : Claim). is_some a.answer ≡ b) k z
 
 -- the sends that are under way are to tasks
-abbrev SendsToTasks : Scenario → Machine → Type 0
-SendsToTasks sc m = (t : ℕ) (f : Frame) (to : ℕ) (moving : Bool) (name id : ℕ) → (tasked m t).frame ≡ Some f → current sc m t ≡ Some (calls.Send to moving name id) → is_task sc to ≡ true
+abbrev SendsThere : Scenario → Machine → Type 0
+SendsThere sc m = (t : ℕ) (f : Frame) (to : ℕ) (moving : Bool) (name id : ℕ) → (tasked m t).frame ≡ Some f → current sc m t ≡ Some (calls.Send to moving name id) → is_task sc to ≡ true
 
-kind_fits : (sc : Scenario) (want : Bool) (m : Machine) (t : ℕ) (f : Frame) (kind : Kind) → Ready sc m → SendsToTasks sc m → (tasked m t).frame ≡ Some f → Shape f kind → AllFit m → MayFit (frame_event sc want m t f kind)
+kind_fits : (sc : Scenario) (want : Bool) (m : Machine) (t : ℕ) (f : Frame) (kind : Kind) → Ready sc m → SendsThere sc m → (tasked m t).frame ≡ Some f → Shape f kind → AllFit m → MayFit (frame_event sc want m t f kind)
 kind_fits sc want m t f kinds.Begin ready sends e s h = tt
 kind_fits sc want m t f kinds.Work ready sends e s h =
     formed_fits _ f.forming (current sc m t) (λ v call g k. unchanged m (do_work m t f v call) (λ p. work_spot m t f v call (size_of (first_at f call)) (first_at f call) (work_first (tasked m t).names (first_at f call) v) p e g refl) h)
@@ -159,7 +159,7 @@ kind_fits sc want m t f kinds.Ask ready sends e s h = claim_fits _ f.claim (λ c
 kind_fits sc want m t f kinds.Recheck ready sends e s h = claim_fits _ f.claim (λ c k. recheck_fits m t f c e k (same_answer f.claim s.0 c true s.1 k s.2) h)
 kind_fits sc want m t f kinds.Phase ready sends e s h = tt
 
-of_fits : (sc : Scenario) (want : Bool) (m : Machine) (t : ℕ) (frame : Option Frame) (kind : Option Kind) → Ready sc m → SendsToTasks sc m → is_task sc t ≡ true → (tasked m t).frame ≡ frame
+of_fits : (sc : Scenario) (want : Bool) (m : Machine) (t : ℕ) (frame : Option Frame) (kind : Option Kind) → Ready sc m → SendsThere sc m → is_task sc t ≡ true → (tasked m t).frame ≡ frame
     → task_next sc (phases_in m.past) t (tasked m t) frame ≡ kind → AllFit m → MayFit (event_of sc want m t frame kind)
 of_fits sc want m t frame None ready sends task e k h = tt
 of_fits sc want m t None (Some kind) ready sends task e k h = line_fits sc want m t (nth_call sc t ((tasked m t).begun + 1)) ready task e h
@@ -167,7 +167,7 @@ of_fits sc want m t (Some f) (Some kind) ready sends task e k h =
     kind_fits sc want m t f kind ready sends e (shape_of f (tasked m t).names (nth_call sc t (tasked m t).begun) kind k) h
 
 -- every event keeps the facts of every handle
-pub event_fits : (sc : Scenario) (want : Bool) (m : Machine) (t : ℕ) → Ready sc m → SendsToTasks sc m → AllFit m → MayFit (event sc want m t)
+pub event_fits : (sc : Scenario) (want : Bool) (m : Machine) (t : ℕ) → Ready sc m → SendsThere sc m → AllFit m → MayFit (event sc want m t)
 unfolding event
 event_fits sc want m t ready sends h = by_task (is_task sc t) refl
   where

@@ -3,6 +3,7 @@ pub mod BeginSpots
 pub mod ClaimMaps
 pub mod EventFits
 pub mod EventSpots
+pub mod Follows
 pub mod Forming
 pub mod FrameSpots
 pub mod LeaveSpots
@@ -14,6 +15,7 @@ pub mod SeenHeld
 pub mod SeenNames
 pub mod SeenReleased
 pub mod SeenSame
+pub mod SeenTasks
 pub mod Shapes
 pub mod SpotSteps
 pub mod StartFits

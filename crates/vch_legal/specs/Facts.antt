@@ -1,6 +1,15 @@
 -- What every event keeps, seen from one handle.
-use Rattle.std.specs.Prelude.{◌≡◌, ℕ, ◌+◌, Bool, true, false, ◌==◌, nat_lt, ◌&&◌, ◌||◌, not, if◌then◌else◌, List, [], ◌∷◌, Option, Some, None, is_some}
+use Rattle.std.specs.Prelude.{◌≡◌, ℕ, ◌+◌, ◌≤◌, Bool, true, false, ◌==◌, nat_lt, ◌&&◌, ◌||◌, not, if◌then◌else◌, List, [], ◌∷◌, length, Option, Some, None, is_some}
+use Rattle.std.specs.List.{list_any}
+use Rattle.vch_base.specs.declared.key.Key.{Key}
+use Rattle.vch_base.specs.declared.value.Value.{Value}
+use Rattle.vch_base.specs.Values.{Belongs, task_numbers}
+use Rattle.vch_model.specs.declared.call.Call.TheVariants as calls
+use Rattle.vch_model.specs.declared.lists.Scenario.{Scenario}
+use Rattle.vch_model.specs.Lines.{is_task}
+use Rattle.vch_model.specs.Legal.{all_tasks}
 use Rattle.vch_machine.specs.State.{of_key, Place, same_place, Living, Claim, Frame, Machine, tasked, living_at, handle_of, is_held, is_expected, claims_on, default_living, default_place}
+use Rattle.vch_machine.specs.Next.{current}
 use Rattle.vch_machine.specs.Leaving.{is_fixed}
 
 -- one handle of a key: whether it is live and Default's, held, expected by a receipt, and the claims on it
@@ -70,15 +79,22 @@ claims_fit s (c ∷ d ∷ cs) = false
 abbrev pub spot_fits : Spot → Bool
 spot_fits s = holder_live s && (implies s.fixed s.live && claims_fit s s.claims)
 
--- a frame with a receipt has no claim, nothing to let go, and its call is not answered
+-- a frame with a receipt has no claim and nothing to let go, and its call is not answered. At most six handles are to be
+-- let go at any time: those of two vouchers
 pub record FrameFits (f : Frame) : Type 0 where
   pub claim : is_some f.receipt ≡ true → f.claim ≡ None
   pub lets : is_some f.receipt ≡ true → f.lets ≡ []
   pub forming : is_some f.receipt ≡ true → is_some f.forming ≡ true
+  pub few : length f.lets ≤ 6
 
 abbrev pub OptionFits : Option Frame → Type 0
 OptionFits None = Unit {0}
 OptionFits (Some f) = FrameFits f
+
+-- the sends that are under way are to tasks of the scenario
+abbrev pub SendsToTasks : Scenario → Machine → Type 0
+SendsToTasks sc m = (t : ℕ) (f : Frame) (to : ℕ) (moving : Bool) (name id : ℕ) → is_task sc t ≡ true → (tasked m t).frame ≡ Some f
+    → current sc m t ≡ Some (calls.Send to moving name id) → is_task sc to ≡ true
 
 abbrev pub bit : Bool → ℕ
 bit b = if b then 1 else 0
@@ -98,9 +114,43 @@ EachOnce m = (p : Place) →
 abbrev pub Different : List Living → Type 0
 Different live = (p : Place) (a : Living) → living_at live p ≡ Some a → handle_of live p.key a.value ≡ Some p.handle
 
-pub record Fits (m : Machine) : Type 0 where
+-- a live value belongs to its key, and names only tasks of the scenario
+pub record ValueFits (sc : Scenario) (k : Key) (x : Value) : Type 0 where
+  pub belongs : Belongs k x
+  pub tasks : all_tasks sc (task_numbers x) ≡ true
+
+abbrev pub ValuesFit : Scenario → List Living → Type 0
+ValuesFit sc live = (p : Place) (a : Living) → living_at live p ≡ Some a → ValueFits sc p.key a.value
+
+-- the numbers of the Made entries of live values: each is within the history and at least 1 but for Default, and no two
+-- are the same
+pub record NumbersFit (n : ℕ) (live : List Living) : Type 0 where
+  pub within : (p : Place) (a : Living) → living_at live p ≡ Some a → a.made ≤ n
+  pub counted : (p : Place) (a : Living) → living_at live p ≡ Some a → same_place p default_place ≡ false → 1 ≤ a.made
+  pub once : (p q : Place) (a b : Living) → living_at live p ≡ Some a → living_at live q ≡ Some b → a.made ≡ b.made → p ≡ q
+
+-- what a handle has still to be paid for by a question: a claim that was not asked, and one more where the handle is held
+-- or has a claim that is back. Default's is never asked for
+abbrev pub burden : Spot → ℕ
+burden s = if s.fixed then 0 else times (λ c. not (asked c)) s.claims + bit (s.held || list_any (λ (c : Claim). c.back) s.claims)
+
+abbrev pub burdens : Machine → List Living → ℕ
+burdens m [] = 0
+burdens m (l ∷ live) = burden (spot m l.place) + burdens m live
+
+-- the questions asked, and those that are still to come at most, are no more than the references that were taken
+abbrev pub IsCounted : Machine → Type 0
+IsCounted m = m.tally.asks + burdens m m.live ≤ m.tally.refers
+
+-- what every event keeps, of any state
+pub record Fits (sc : Scenario) (m : Machine) : Type 0 where
   pub spots : (p : Place) → spot_fits (spot m p) ≡ true
   pub frames : (t : ℕ) → OptionFits (tasked m t).frame
+  pub sends : SendsToTasks sc m
+  pub tasks : length m.tasks ≡ length sc.flags
   pub each_once : EachOnce m
   pub different : Different m.live
   pub default_live : living_at m.live default_place ≡ Some default_living
+  pub values : ValuesFit sc m.live
+  pub numbers : NumbersFit (length m.past) m.live
+  pub counted : IsCounted m
