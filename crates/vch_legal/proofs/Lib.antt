@@ -7,7 +7,9 @@ pub mod Follows
 pub mod Forming
 pub mod FrameSpots
 pub mod LeaveSpots
+pub mod Lifts
 pub mod MakeSpots
+pub mod PhaseLines
 pub mod Places
 pub mod PutSpots
 pub mod ReferSpots
@@ -18,6 +20,7 @@ pub mod SeenSame
 pub mod SeenTasks
 pub mod Shapes
 pub mod SpotSteps
+pub mod Standing
 pub mod StartFits
 pub mod TaskLists
 pub mod TransferSpots
