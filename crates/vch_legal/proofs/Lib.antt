@@ -9,6 +9,7 @@ pub mod FrameSpots
 pub mod LeaveSpots
 pub mod Lifts
 pub mod MakeSpots
+pub mod OwnSteps
 pub mod PhaseLines
 pub mod Places
 pub mod PutSpots
