@@ -19,6 +19,7 @@ pub mod SeenNames
 pub mod SeenReleased
 pub mod SeenSame
 pub mod SeenTasks
+pub mod SeenValues
 pub mod Shapes
 pub mod SpotSteps
 pub mod Standing
