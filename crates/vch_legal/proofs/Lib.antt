@@ -7,6 +7,7 @@ pub mod Follows
 pub mod Forming
 pub mod FrameSpots
 pub mod LeaveSpots
+pub mod LeaveSteps
 pub mod Lifts
 pub mod MakeSpots
 pub mod OwnSteps
