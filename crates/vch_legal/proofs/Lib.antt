@@ -14,6 +14,7 @@ pub mod OwnSteps
 pub mod PhaseLines
 pub mod Places
 pub mod PutSpots
+pub mod Records
 pub mod ReferSpots
 pub mod SeenHeld
 pub mod SeenNames
