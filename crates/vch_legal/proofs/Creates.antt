@@ -24,11 +24,11 @@ use Rattle.vch_legal.proofs.Forming.{After, rest_of, eval_bound}
 use Rattle.vch_legal.proofs.SeenNames.{LiveAll, AllLive}
 use Rattle.vch_legal.proofs.Records.{seen_names, asks_same, valued_result, record_alike, previous_alike, eval_asked, carried_one, carried_all, redeems}
 
-abbrev Names : Type 0
+abbrev pub Names : Type 0
 Names = ℕ → Option Voucher
 
 -- what follows a record
-abbrev then_eval : ℕ → Names → ℕ → List ℕ → Result Voucher ℤ → Result Voucher ℤ
+abbrev pub then_eval : ℕ → Names → ℕ → List ℕ → Result Voucher ℤ → Result Voucher ℤ
 then_eval n names t rest (Ok next) = eval_all n names t next rest
 then_eval n names t rest (Err code) = Err code
 
@@ -73,7 +73,7 @@ self : (n : ℕ) → n ≤ n
 self n = omega arith
 
 -- the fold over some bytes is one over what follows their first record
-eval_step : (names : Names) (t : ℕ) (map : Voucher) (b : List ℕ) (r : Recipe) (rest : List ℕ) → first_of b ≡ One r rest
+pub eval_step : (names : Names) (t : ℕ) (map : Voucher) (b : List ℕ) (r : Recipe) (rest : List ℕ) → first_of b ≡ One r rest
     → eval_all (length b) names t map b ≡ then_eval (length rest) names t rest (eval names t r map)
 eval_step names t map b r rest e = by_length (bytes_there b r rest e (length b) refl)
   where
@@ -120,12 +120,12 @@ reaches_step names t map b r rest e = by_length (bytes_there b r rest e (length 
         ap (λ n. reaches n names t map b) g ∙ (reaches_one k names t map b r rest e ∙ ap (λ b. asks names r || b) (by_result k l (eval names t r map)))
 
 -- where the first record asks a manager, the fold reaches it
-reaches_asking : (names : Names) (t : ℕ) (ks : List Key) (map : Voucher) (b : List ℕ) (r : Recipe) (rest : List ℕ) → first_of b ≡ One r rest → asks names r ≡ true → reaches_on names t ks map b ≡ true
+pub reaches_asking : (names : Names) (t : ℕ) (ks : List Key) (map : Voucher) (b : List ℕ) (r : Recipe) (rest : List ℕ) → first_of b ≡ One r rest → asks names r ≡ true → reaches_on names t ks map b ≡ true
 reaches_asking names t [] map b r rest e a = reaches_step names t map b r rest e ∙ ap (λ x. x || then_reaches (length rest) names t rest (eval names t r map)) a
 reaches_asking names t (k ∷ ks) map b r rest e a = refl
 
 -- the bytes behind a record
-behind : (place : ℕ) (bytes : List ℕ) (r : Recipe) (rest : List ℕ) → first_of (drop place bytes) ≡ One r rest → drop (place + (16 + length r.content)) bytes ≡ rest
+pub behind : (place : ℕ) (bytes : List ℕ) (r : Recipe) (rest : List ℕ) → first_of (drop place bytes) ≡ One r rest → drop (place + (16 + length r.content)) bytes ≡ rest
 behind place bytes r rest e = sym (drop-drop (16 + length r.content) place bytes) ∙ sym ((rest_of (drop place bytes) r rest e).rest_is)
 
 -- a record that asks no manager is done

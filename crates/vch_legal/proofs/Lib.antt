@@ -1,6 +1,7 @@
 pub mod AskSpots
 pub mod BeginSpots
 pub mod ClaimMaps
+pub mod CreateMakes
 pub mod Creates
 pub mod EventFits
 pub mod EventSpots
