@@ -17,7 +17,7 @@ cases_bool true P f g = f refl
 cases_bool false P f g = g refl
 
 -- the frame after it let a place go
-abbrev let_frame : Frame → List Place → Option Claim → Frame
+abbrev pub let_frame : Frame → List Place → Option Claim → Frame
 let_frame f rest c = record f { lets = rest; claim = c }
 
 -- a claim on another place is none here
@@ -33,11 +33,11 @@ claim_if_place m q d e = by_test (is_fixed m q || (is_held m q || not (is_empty 
     by_test false c d g e = cc
 
 -- the frame while the claim is looked for
-abbrev let_mid : Machine → ℕ → Frame → List Place → Machine
+abbrev pub let_mid : Machine → ℕ → Frame → List Place → Machine
 let_mid m t f rest = with_frame m t (Some (record f { lets = rest }))
 
 -- at any other place nothing changes
-let_go_other : (m : Machine) (t : ℕ) (f : Frame) (q p : Place) (rest : List Place) → (tasked m t).frame ≡ Some f
+pub let_go_other : (m : Machine) (t : ℕ) (f : Frame) (q p : Place) (rest : List Place) → (tasked m t).frame ≡ Some f
     → f.lets ≡ q ∷ rest → f.claim ≡ None → same_place q p ≡ false → spot (do_let_go m t f q rest) p ≡ spot m p
 let_go_other m t f q p rest e lets claim other =
     spot_same m t f (closed (let_frame f rest (claim_if (let_mid m t f rest) q))) p e
@@ -51,7 +51,7 @@ let_go_other m t f q p rest e lets claim other =
     claims : claim_at (claim_if (let_mid m t f rest) q) p ≡ frame_claims (Some f) p
     claims = claim_other (claim_if (let_mid m t f rest) q) q p (claim_if_place (let_mid m t f rest) q) other ∙ sym (ap (λ c. claim_at c p) claim)
 
-claim_at_if : (b : Bool) (d : Claim) (q : Place) → d.place ≡ q → claim_at (if b then None else Some d) q ≡ (if b then [] else d ∷ [])
+pub claim_at_if : (b : Bool) (d : Claim) (q : Place) → d.place ≡ q → claim_at (if b then None else Some d) q ≡ (if b then [] else d ∷ [])
 claim_at_if true d q e = refl
 claim_at_if false d q e = rw (e, same_place_refl q)
 
@@ -61,30 +61,33 @@ fits_of a b e h = rw e h
 held_now : (a b : Bool) → ((a || true) || b) ≡ true
 held_now a b = grind arith
 
-let_go_join : (q : Place) (live fixed held expected : Bool) (xs ys : List Claim) (mid_held mid_expected : Bool) (mid_claims : List Claim)
-    → mid_held ≡ held → mid_expected ≡ expected → mid_claims ≡ xs ++ ys
-    → spot_fits (one live fixed true expected (xs ++ ys)) ≡ true
-    → spot_fits (one live fixed held expected (xs ++ (claim_at (if fixed || (mid_held || not (is_empty mid_claims)) then None else Some (fresh q mid_expected)) q ++ ys))) ≡ true
-let_go_join q live fixed held expected xs ys mh me mc e g k h =
-    rw (e, g, k) (rw (claim_at_if (fixed || (held || not (is_empty (xs ++ ys)))) (fresh q expected) q refl) (let_go_at q live fixed held expected xs ys h))
+-- the spot of the place that is let go: before, and after
+abbrev pub gone_spot : Machine → ℕ → Frame → Place → List Place → Bool → List Claim → Spot
+gone_spot m t f q rest held cs =
+    one (is_some (living_at m.live q)) (is_fixed m q) held (is_place f.receipt q || others_expect m t q) (claims_before m t q ++ (cs ++ claims_behind m t q))
 
-let_go_same : (m : Machine) (t : ℕ) (f : Frame) (q : Place) (rest : List Place) → (tasked m t).frame ≡ Some f
-    → f.lets ≡ q ∷ rest → f.claim ≡ None → spot_fits (spot m q) ≡ true → spot_fits (spot (do_let_go m t f q rest) q) ≡ true
-let_go_same m t f q rest e lets claim h =
-    fits_of (spot (do_let_go m t f q rest) q) (after (claim_if (let_mid m t f rest) q)) changed
-    (let_go_join q (is_some (living_at m.live q)) (is_fixed m q) (frame_holds (Some (record f { lets = rest })) q || kept_named m t q)
-    (is_place f.receipt q || others_expect m t q) (claims_before m t q) (claims_behind m t q)
-    (is_held (let_mid m t f rest) q) (is_expected (let_mid m t f rest) q) (claims_on (let_mid m t f rest) q)
-    (ap (λ s. s.held) middle) (ap (λ s. s.expected) middle) (ap (λ s. s.claims) middle ∙ unclaimed) old)
+abbrev pub left_held : Machine → ℕ → Frame → Place → List Place → Bool
+left_held m t f q rest = frame_holds (Some (record f { lets = rest })) q || kept_named m t q
+
+abbrev pub left_claims : Machine → ℕ → Frame → Place → List Place → List Claim
+left_claims m t f q rest =
+    if is_fixed m q || (left_held m t f q rest || not (is_empty (claims_before m t q ++ claims_behind m t q))) then []
+    else fresh q (is_place f.receipt q || others_expect m t q) ∷ []
+
+let_go_join : (q : Place) (fixed held expected : Bool) (cs : List Claim) (mid_held mid_expected : Bool) (mid_claims : List Claim)
+    → mid_held ≡ held → mid_expected ≡ expected → mid_claims ≡ cs
+    → claim_at (if fixed || (mid_held || not (is_empty mid_claims)) then None else Some (fresh q mid_expected)) q
+    ≡ (if fixed || (held || not (is_empty cs)) then [] else fresh q expected ∷ [])
+let_go_join q fixed held expected cs mh me mc e g k = rw (e, g, k) (claim_at_if (fixed || (held || not (is_empty cs))) (fresh q expected) q refl)
+
+pub let_go_here : (m : Machine) (t : ℕ) (f : Frame) (q : Place) (rest : List Place) → (tasked m t).frame ≡ Some f → f.claim ≡ None
+    → spot (do_let_go m t f q rest) q ≡ gone_spot m t f q rest (left_held m t f q rest) (left_claims m t f q rest)
+let_go_here m t f q rest e claim = changed ∙ ap (λ cs. gone_spot m t f q rest (left_held m t f q rest) cs) joined
   where
     l : t - 1 < length m.tasks
     l = task_in_range m t f e
 
-    after : Option Claim → Spot
-    after c = one (is_some (living_at m.live q)) (is_fixed m q) (frame_holds (Some (record f { lets = rest })) q || kept_named m t q)
-        (is_place f.receipt q || others_expect m t q) (claims_before m t q ++ (claim_at c q ++ claims_behind m t q))
-
-    changed : spot (do_let_go m t f q rest) q ≡ after (claim_if (let_mid m t f rest) q)
+    changed : spot (do_let_go m t f q rest) q ≡ gone_spot m t f q rest (left_held m t f q rest) (claim_at (claim_if (let_mid m t f rest) q) q)
     changed = spot_set m t (closed (let_frame f rest (claim_if (let_mid m t f rest) q))) q l
         ∙ one_eq _ _ _ _ _ _ _ _
         (ap (λ x. x || kept_named m t q) (closed_holds (let_frame f rest (claim_if (let_mid m t f rest) q)) q))
@@ -94,14 +97,25 @@ let_go_same m t f q rest e lets claim h =
     middle : spot (let_mid m t f rest) q ≡ spot_by m t (Some (record f { lets = rest })) q
     middle = spot_set m t (Some (record f { lets = rest })) q l
 
-    unclaimed : claims_before m t q ++ (claim_at f.claim q ++ claims_behind m t q) ≡ claims_before m t q ++ claims_behind m t q
-    unclaimed = ap (λ c. claims_before m t q ++ (claim_at c q ++ claims_behind m t q)) claim
+    joined : claim_at (claim_if (let_mid m t f rest) q) q ≡ left_claims m t f q rest
+    joined = let_go_join q (is_fixed m q) (left_held m t f q rest) (is_place f.receipt q || others_expect m t q) (claims_before m t q ++ claims_behind m t q)
+        (is_held (let_mid m t f rest) q) (is_expected (let_mid m t f rest) q) (claims_on (let_mid m t f rest) q)
+        (ap (λ s. s.held) middle) (ap (λ s. s.expected) middle)
+        (ap (λ s. s.claims) middle ∙ ap (λ c. claims_before m t q ++ (claim_at c q ++ claims_behind m t q)) claim)
 
+pub let_go_was : (m : Machine) (t : ℕ) (f : Frame) (q : Place) (rest : List Place) → (tasked m t).frame ≡ Some f → f.lets ≡ q ∷ rest → f.claim ≡ None
+    → spot m q ≡ gone_spot m t f q rest true []
+let_go_was m t f q rest e lets claim = spot_of m t f q e ∙ one_eq _ _ _ _ _ _ _ _ was_held refl (ap (λ c. claims_before m t q ++ (claim_at c q ++ claims_behind m t q)) claim)
+  where
     was_held : (frame_holds (Some f) q || kept_named m t q) ≡ true
     was_held = rw (lets, same_place_refl q) (held_now (option_has f.forming q) (kept_named m t q))
 
-    old : spot_fits (one (is_some (living_at m.live q)) (is_fixed m q) true (is_place f.receipt q || others_expect m t q) (claims_before m t q ++ claims_behind m t q)) ≡ true
-    old = fits_of _ (spot m q) (sym (spot_of m t f q e ∙ one_eq _ _ _ _ _ _ _ _ was_held refl unclaimed)) h
+let_go_same : (m : Machine) (t : ℕ) (f : Frame) (q : Place) (rest : List Place) → (tasked m t).frame ≡ Some f
+    → f.lets ≡ q ∷ rest → f.claim ≡ None → spot_fits (spot m q) ≡ true → spot_fits (spot (do_let_go m t f q rest) q) ≡ true
+let_go_same m t f q rest e lets claim h =
+    fits_of (spot (do_let_go m t f q rest) q) _ (let_go_here m t f q rest e claim)
+    (let_go_at q (is_some (living_at m.live q)) (is_fixed m q) (left_held m t f q rest) (is_place f.receipt q || others_expect m t q) (claims_before m t q) (claims_behind m t q)
+    (fits_of (gone_spot m t f q rest true []) (spot m q) (sym (let_go_was m t f q rest e lets claim)) h))
 
 -- LetGo keeps the facts of every handle
 pub let_go_fits : (m : Machine) (t : ℕ) (f : Frame) (q : Place) (rest : List Place) → (tasked m t).frame ≡ Some f
@@ -112,7 +126,7 @@ let_go_fits m t f q rest e lets claim h p =
     (λ other. fits_of (spot (do_let_go m t f q rest) p) (spot m p) (let_go_other m t f q p rest e lets claim other) (h p))
 
 -- Recheck
-again_place : (m : Machine) (c : Claim) (d : Claim) → again m c ≡ Some d → d.place ≡ c.place
+pub again_place : (m : Machine) (c : Claim) (d : Claim) → again m c ≡ Some d → d.place ≡ c.place
 again_place m c d e = by_test (c.back && not (is_held m c.place)) (new_claim m c.place) d refl e
   where
     by_test : (b : Bool) (x y : Claim) → x.place ≡ c.place → (if b then Some x else None) ≡ Some y → y.place ≡ c.place
@@ -126,11 +140,11 @@ pub one_claim_here : (c : Claim) → claim_at (Some c) c.place ≡ c ∷ []
 one_claim_here c = rw (same_place_refl c.place)
 
 -- the frame with another claim
-abbrev claim_frame : Frame → Option Claim → Frame
+abbrev pub claim_frame : Frame → Option Claim → Frame
 claim_frame f c = record f { claim = c }
 
 -- where only the claim is replaced, by one on the same place or none
-claimed_other : (m : Machine) (t : ℕ) (f : Frame) (c : Claim) (d : Option Claim) (p : Place) → (tasked m t).frame ≡ Some f → f.claim ≡ Some c
+pub claimed_other : (m : Machine) (t : ℕ) (f : Frame) (c : Claim) (d : Option Claim) (p : Place) → (tasked m t).frame ≡ Some f → f.claim ≡ Some c
     → ((x : Claim) → d ≡ Some x → x.place ≡ c.place) → same_place c.place p ≡ false
     → spot (with_frame m t (closed (claim_frame f d))) p ≡ spot m p
 claimed_other m t f c d p e claim place other =
@@ -147,7 +161,7 @@ pub claimed_before : (m : Machine) (t : ℕ) (f : Frame) (c : Claim) → (tasked
 claimed_before m t f c e claim =
     spot_of m t f c.place e ∙ ap (λ cs. claimed_spot m t f c.place cs) (ap (λ x. claim_at x c.place) claim ∙ one_claim_here c)
 
-claimed_after : (m : Machine) (t : ℕ) (f : Frame) (c : Claim) (d : Option Claim) → (tasked m t).frame ≡ Some f
+pub claimed_after : (m : Machine) (t : ℕ) (f : Frame) (c : Claim) (d : Option Claim) → (tasked m t).frame ≡ Some f
     → spot (with_frame m t (closed (claim_frame f d))) c.place ≡ claimed_spot m t f c.place (claim_at d c.place)
 claimed_after m t f c d e =
     spot_set m t (closed (claim_frame f d)) c.place (task_in_range m t f e)
@@ -156,7 +170,7 @@ claimed_after m t f c d e =
     (ap (λ x. x || others_expect m t c.place) (closed_expects (claim_frame f d) c.place))
     (ap (λ x. claims_before m t c.place ++ (x ++ claims_behind m t c.place)) (closed_claims (claim_frame f d) c.place))
 
-some_if : (b : Bool) (d : Claim) (q : Place) → d.place ≡ q → claim_at (if b then Some d else None) q ≡ (if b then d ∷ [] else [])
+pub some_if : (b : Bool) (d : Claim) (q : Place) → d.place ≡ q → claim_at (if b then Some d else None) q ≡ (if b then d ∷ [] else [])
 some_if true d q e = rw (e, same_place_refl q)
 some_if false d q e = refl
 

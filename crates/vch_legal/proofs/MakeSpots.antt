@@ -21,13 +21,13 @@ use Rattle.vch_legal.proofs.AskSpots.{spot_live}
 abbrev expecting : Machine → ℕ → Frame → Place → Machine
 expecting m t f q = with_frame m t (Some (record f { receipt = Some q }))
 
-given_other : (m : Machine) (t : ℕ) (f : Frame) (q p : Place) → (tasked m t).frame ≡ Some f → f.receipt ≡ None → same_place q p ≡ false
+pub given_other : (m : Machine) (t : ℕ) (f : Frame) (q p : Place) → (tasked m t).frame ≡ Some f → f.receipt ≡ None → same_place q p ≡ false
     → spot (given_receipt m t f q) p ≡ spot m p
 given_other m t f q p e receipt other =
     spot_on_other (expecting m t f q) (race_claim q) p (λ c. race_other q p c other)
     ∙ spot_same m t f (Some (record f { receipt = Some q })) p e refl (other ∙ sym (ap (λ x. is_place x p) receipt)) refl
 
-given_here : (m : Machine) (t : ℕ) (f : Frame) (q : Place) → (tasked m t).frame ≡ Some f
+pub given_here : (m : Machine) (t : ℕ) (f : Frame) (q : Place) → (tasked m t).frame ≡ Some f
     → spot (given_receipt m t f q) q ≡ one (is_some (living_at m.live q)) (is_fixed m q) (is_held m q) true (map raced_now (claims_on m q))
 given_here m t f q e =
     spot_on (expecting m t f q) (race_claim q) raced_now q (race_here q)
@@ -55,7 +55,7 @@ given_fits m t f q e receipt live h p =
     (ap (λ x. one x (is_fixed m q) (is_held m q) (is_expected m q) (claims_on m q)) (sym live)) (h q)))))
     (λ other. fits_of (spot (given_receipt m t f q) p) (spot m p) (given_other m t f q p e receipt other) (h p))
 
-append_other : (live : List Living) (l : Living) (p : Place) → same_place l.place p ≡ false → living_at (live ++ l ∷ []) p ≡ living_at live p
+pub append_other : (live : List Living) (l : Living) (p : Place) → same_place l.place p ≡ false → living_at (live ++ l ∷ []) p ≡ living_at live p
 append_other [] l p e = rw e
 append_other (x ∷ live) l p e = rw (append_other live l p e)
 
@@ -65,7 +65,7 @@ if_true b y z k = rw k
 if_false : {A : Type 0} (b : Bool) (y z : A) → b ≡ false → (if b then y else z) ≡ z
 if_false b y z k = rw k
 
-append_here : (live : List Living) (l : Living) → living_at live l.place ≡ None → living_at (live ++ l ∷ []) l.place ≡ Some l
+pub append_here : (live : List Living) (l : Living) → living_at live l.place ≡ None → living_at (live ++ l ∷ []) l.place ≡ Some l
 append_here [] l e = rw (same_place_refl l.place)
 append_here (x ∷ live) l e =
     cases_bool (same_place x.place l.place) (living_at (x ∷ live ++ l ∷ []) l.place ≡ Some l)

@@ -78,7 +78,7 @@ moved_same (calls.Create bytes) f = moved_one f (first_of (drop f.at_byte bytes)
 moved_same call f = record { forming = refl; receipt = refl; lets = refl; claim = refl }
 
 -- the frame after a Refer
-abbrev referred : Frame → Handles → Place → Frame
+abbrev pub referred : Frame → Handles → Place → Frame
 referred f v q = record f { forming = Some (with_key q.key (Some q.handle) v); lets = f.lets ++ item q.key (of_key q.key v); receipt = None }
 
 pub holds_eq : (f g : Frame) (p : Place) → Moved f g → frame_holds (Some g) p ≡ frame_holds (Some f) p
@@ -103,7 +103,7 @@ or_true a b c e = grind arith
 abbrev backed : Machine → Place → Machine
 backed m q = on_claims (back_claim q) m
 
-refer_other : (m : Machine) (t : ℕ) (f : Frame) (v : Handles) (call : Call) (q p : Place) → (tasked m t).frame ≡ Some f
+pub refer_other : (m : Machine) (t : ℕ) (f : Frame) (v : Handles) (call : Call) (q p : Place) → (tasked m t).frame ≡ Some f
     → f.forming ≡ Some v → f.claim ≡ None → f.receipt ≡ Some q → same_place q p ≡ false
     → spot (do_refer m t f v call q) p ≡ spot m p
 refer_other m t f v call q p e forming claim receipt other =
@@ -113,17 +113,16 @@ refer_other m t f v call q p e forming claim receipt other =
     (closed_claims (moved call (referred f v q)) p ∙ (ap (λ x. claim_at x p) ((moved_same call (referred f v q)).claim ∙ claim) ∙ sym (ap (λ x. claim_at (on_claim (back_claim q) x) p) claim)))
     ∙ spot_on_other m (back_claim q) p (λ c. back_other q p c other)
 
-refer_same : (m : Machine) (t : ℕ) (f : Frame) (v : Handles) (call : Call) (q : Place) → (tasked m t).frame ≡ Some f
-    → f.forming ≡ Some v → f.claim ≡ None → f.receipt ≡ Some q → spot_fits (spot m q) ≡ true
-    → spot_fits (spot (do_refer m t f v call q) q) ≡ true
-refer_same m t f v call q e forming claim receipt h =
-    fits_of (spot (do_refer m t f v call q) q)
-    (one (is_some (living_at m.live q)) (is_fixed m q) true (frame_expects (closed (moved call (referred f v q))) q || others_expect (backed m q) t q) (map back_now (claims_on m q)))
-    (spot_set (backed m q) t (closed (moved call (referred f v q))) q (task_in_range (backed m q) t _ (frame_on m t f (back_claim q) e))
-    ∙ one_eq _ _ _ _ _ _ _ _ held refl claims)
-    (refer_keeps (is_some (living_at m.live q)) (is_fixed m q) (is_held m q) _ (claims_on m q)
-    (fits_of (one (is_some (living_at m.live q)) (is_fixed m q) (is_held m q) true (claims_on m q)) (spot m q)
-    (ap (λ x. one (is_some (living_at m.live q)) (is_fixed m q) (is_held m q) x (claims_on m q)) (sym expected)) h))
+-- a receipt is there after a Refer only by others
+abbrev pub after_expects : Machine → ℕ → Frame → Handles → Call → Place → Bool
+after_expects m t f v call q = frame_expects (closed (moved call (referred f v q))) q || others_expect (backed m q) t q
+
+pub refer_here : (m : Machine) (t : ℕ) (f : Frame) (v : Handles) (call : Call) (q : Place) → (tasked m t).frame ≡ Some f
+    → f.forming ≡ Some v → f.claim ≡ None
+    → spot (do_refer m t f v call q) q ≡ one (is_some (living_at m.live q)) (is_fixed m q) true (after_expects m t f v call q) (map back_now (claims_on m q))
+refer_here m t f v call q e forming claim =
+    spot_set (backed m q) t (closed (moved call (referred f v q))) q (task_in_range (backed m q) t _ (frame_on m t f (back_claim q) e))
+    ∙ one_eq _ _ _ _ _ _ _ _ held refl claims
   where
     held : (frame_holds (closed (moved call (referred f v q))) q || kept_named (backed m q) t q) ≡ true
     held = ap (λ x. x || kept_named (backed m q) t q) (closed_holds (moved call (referred f v q)) q ∙ holds_eq (referred f v q) (moved call (referred f v q)) q (moved_same call (referred f v q)))
@@ -135,6 +134,15 @@ refer_same m t f v call q e forming claim receipt h =
         ∙ (sym (ap (λ s. s.claims) (spot_of (backed m q) t (record f { claim = on_claim (back_claim q) f.claim }) q (frame_on m t f (back_claim q) e)))
         ∙ ap (λ s. s.claims) (spot_on m (back_claim q) back_now q (back_here q)))
 
+refer_same : (m : Machine) (t : ℕ) (f : Frame) (v : Handles) (call : Call) (q : Place) → (tasked m t).frame ≡ Some f
+    → f.forming ≡ Some v → f.claim ≡ None → f.receipt ≡ Some q → spot_fits (spot m q) ≡ true
+    → spot_fits (spot (do_refer m t f v call q) q) ≡ true
+refer_same m t f v call q e forming claim receipt h =
+    fits_of (spot (do_refer m t f v call q) q) _ (refer_here m t f v call q e forming claim)
+    (refer_keeps (is_some (living_at m.live q)) (is_fixed m q) (is_held m q) _ (claims_on m q)
+    (fits_of (one (is_some (living_at m.live q)) (is_fixed m q) (is_held m q) true (claims_on m q)) (spot m q)
+    (ap (λ x. one (is_some (living_at m.live q)) (is_fixed m q) (is_held m q) x (claims_on m q)) (sym expected)) h))
+  where
     or_left : (a b : Bool) → a ≡ true → (a || b) ≡ true
     or_left a b k = grind arith
 

@@ -155,7 +155,7 @@ ask_different live q d p a e =
     (λ here. let k : living_at (without_place live q) p ≡ None = subst (λ (r : Place). living_at (without_place live q) r ≡ None) (same_place_eq q p here) (without_here live q) in cc)
     (λ other. found_kept live q p.key a.value p.handle other (d p a (sym (without_other live q p other) ∙ e)))
 
-found_append : (live : List Living) (l : Living) (k : Key) (x : Value) (h : ℕ) → handle_of live k x ≡ Some h → handle_of (live ++ l ∷ []) k x ≡ Some h
+pub found_append : (live : List Living) (l : Living) (k : Key) (x : Value) (h : ℕ) → handle_of live k x ≡ Some h → handle_of (live ++ l ∷ []) k x ≡ Some h
 found_append [] l k x h e = cc
 found_append (y ∷ live) l k x h e =
     cases_bool ((number_of y.place.key == number_of k) && equal_values y.value x) (handle_of (y ∷ live ++ l ∷ []) k x ≡ Some h)

@@ -134,13 +134,14 @@ pub record NumbersFit (n : ℕ) (live : List Living) : Type 0 where
 abbrev pub burden : Spot → ℕ
 burden s = if s.fixed then 0 else times (λ c. not (asked c)) s.claims + bit (s.held || list_any (λ (c : Claim). c.back) s.claims)
 
-abbrev pub burdens : Machine → List Living → ℕ
-burdens m [] = 0
-burdens m (l ∷ live) = burden (spot m l.place) + burdens m live
+-- a sum over the places of live values
+abbrev pub total : (Place → ℕ) → List Living → ℕ
+total b [] = 0
+total b (l ∷ live) = b l.place + total b live
 
 -- the questions asked, and those that are still to come at most, are no more than the references that were taken
 abbrev pub IsCounted : Machine → Type 0
-IsCounted m = m.tally.asks + burdens m m.live ≤ m.tally.refers
+IsCounted m = m.tally.asks + total (λ p. burden (spot m p)) m.live ≤ m.tally.refers
 
 -- what every event keeps, of any state
 pub record Fits (sc : Scenario) (m : Machine) : Type 0 where

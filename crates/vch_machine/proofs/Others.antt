@@ -305,7 +305,7 @@ of_leaves u t sc want m f None apart = tt
 of_leaves u t sc want m None (Some kind) apart = line_leaves u t sc want m (nth_call sc t ((tasked m t).begun + 1)) apart
 of_leaves u t sc want m (Some f) (Some kind) apart = frame_leaves u t sc want m f kind apart
 
-event_leaves : (u t : ℕ) (sc : Scenario) (want : Bool) (m : Machine) → u - 1 ≢ t - 1 → MayLeave u m (event sc want m t)
+pub event_leaves : (u t : ℕ) (sc : Scenario) (want : Bool) (m : Machine) → u - 1 ≢ t - 1 → MayLeave u m (event sc want m t)
 unfolding event
 event_leaves u t sc want m apart = may_either u m _ _ (is_task sc t) (of_leaves u t sc want m (tasked m t).frame (next_kind sc m t) apart) tt
 
