@@ -9,12 +9,14 @@ pub mod EventSpots
 pub mod Follows
 pub mod Forming
 pub mod FrameSpots
+pub mod HeldLive
 pub mod Keeps
 pub mod LeaveSpots
 pub mod LeaveSteps
 pub mod Lifts
 pub mod LiveKeeps
 pub mod MakeSpots
+pub mod Nexts
 pub mod OwnSteps
 pub mod OwnTask
 pub mod PhaseLines
