@@ -24,6 +24,7 @@ pub mod Places
 pub mod PutSpots
 pub mod Records
 pub mod ReferSpots
+pub mod Refusals
 pub mod SeenHeld
 pub mod SeenNames
 pub mod SeenReleased

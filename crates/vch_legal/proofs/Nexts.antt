@@ -77,7 +77,7 @@ forms_in sc live x t begun g v r call forming receipt there h =
     (subst (λ (o : Option Call). FrameForms sc live x t g.at_byte g.keys r (Some v) o) (sym there) h))
 
 -- a key that is done, as the frame has it
-abbrev at_keys : Frame → ℕ → List Key → Frame
+abbrev pub at_keys : Frame → ℕ → List Key → Frame
 at_keys f place ks = record f { at_byte = place; keys = ks }
 
 moved_first_is : (f : Frame) (first : First) → moved_first f first ≡ at_keys f (moved_place_first f.keys f.at_byte first) (moved_keys_first f.keys first)
