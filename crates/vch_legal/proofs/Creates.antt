@@ -148,7 +148,7 @@ pub refused_forms : (names : Names) (t : ℕ) (bytes : List ℕ) (place : ℕ) (
 refused_forms names t bytes place map r rest code f e g = sym f.made ∙ (eval_step names t map (drop place bytes) r rest e ∙ ap (then_eval (length rest) names t rest) g)
 
 -- bytes that are cut give code 4
-abbrev Cut : First → Type 0
+abbrev pub Cut : First → Type 0
 Cut (One r rest) = ⊥
 Cut End = ⊥
 Cut (HeaderCut left) = Unit {0}

@@ -15,6 +15,7 @@ pub mod LeaveSpots
 pub mod LeaveSteps
 pub mod Lifts
 pub mod LiveKeeps
+pub mod MakeGoes
 pub mod MakeSpots
 pub mod Nexts
 pub mod OwnSteps
@@ -42,3 +43,4 @@ pub mod TransferSpots
 pub mod Values
 pub mod ValuesMade
 pub mod WorkSpots
+pub mod WorkSteps
