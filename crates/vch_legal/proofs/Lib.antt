@@ -17,6 +17,7 @@ pub mod Lifts
 pub mod LiveKeeps
 pub mod MakeGoes
 pub mod MakeSpots
+pub mod MakeSteps
 pub mod Nexts
 pub mod OwnSteps
 pub mod OwnTask

@@ -28,7 +28,7 @@ use Rattle.vch_legal.proofs.SeenReleased.{Numbered}
 abbrev pub AtMostOnce : List Living → Type 0
 AtMostOnce live = (p : Place) → times (λ (l : Living). same_place l.place p) live ≤ 1
 
-once_tail : (l : Living) (live : List Living) → AtMostOnce (l ∷ live) → AtMostOnce live
+pub once_tail : (l : Living) (live : List Living) → AtMostOnce (l ∷ live) → AtMostOnce live
 once_tail l live h p = let a : bit (same_place l.place p) + times (λ (l : Living). same_place l.place p) live ≤ 1 = h p in omega arith
 
 none_more : (l : Living) (live : List Living) (p : Place) → AtMostOnce (l ∷ live) → same_place l.place p ≡ true → times (λ (l : Living). same_place l.place p) live ≡ 0
