@@ -1,6 +1,7 @@
 pub mod AskSpots
 pub mod BeginSpots
 pub mod Burdens
+pub mod CarrySteps
 pub mod Cases
 pub mod ClaimMaps
 pub mod CreateMakes
@@ -22,11 +23,13 @@ pub mod Nexts
 pub mod OwnSteps
 pub mod OwnTask
 pub mod PhaseLines
+pub mod PlaceSteps
 pub mod Places
 pub mod PutSpots
 pub mod Records
 pub mod ReferSpots
 pub mod Refusals
+pub mod SeenCalls
 pub mod SeenHeld
 pub mod SeenNames
 pub mod SeenReleased
