@@ -1,5 +1,6 @@
 pub mod AskSpots
 pub mod BeginSpots
+pub mod BeginSteps
 pub mod Burdens
 pub mod CarrySteps
 pub mod Cases
