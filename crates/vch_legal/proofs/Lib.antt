@@ -1,4 +1,6 @@
 pub mod AskSpots
+pub mod BeginCalls
+pub mod BeginFrames
 pub mod BeginSpots
 pub mod BeginSteps
 pub mod Burdens
