@@ -21,14 +21,14 @@ use Rattle.vch_machine.specs.Frames.{with_frame, replied}
 use Rattle.vch_machine.specs.Naming.{handles_of}
 use Rattle.vch_machine.specs.Next.{nth_call}
 use Rattle.vch_legal.specs.Facts.{Fits}
-use Rattle.vch_legal.specs.Tie.{first_in, is_answering}
+use Rattle.vch_legal.specs.Tie.{first_in}
 use Rattle.vch_legal.proofs.OwnTask.{set_keeps}
 use Rattle.vch_legal.proofs.SeenTasks.{member_seen, own_task}
 use Rattle.vch_legal.proofs.SeenCalls.{room_seen, seen_queued, seen_taken}
 use Rattle.vch_legal.proofs.Standing.{Step}
-use Rattle.vch_legal.proofs.OwnSteps.{Before}
+use Rattle.vch_legal.proofs.OwnSteps.{Before, Answered}
 use Rattle.vch_legal.proofs.PlaceSteps.{IsStep}
-use Rattle.vch_legal.proofs.BeginSteps.{Starting, counted, counted_seen, counted_task, begun_answer, if_same, quiet_answer, wanting_answer, longer, drop_answer}
+use Rattle.vch_legal.proofs.BeginSteps.{Starting, counted, counted_seen, counted_task, begun_answer, unanswered, if_same, quiet_answer, wanting_answer, longer, drop_answer}
 use Rattle.vch_legal.proofs.BeginFrames.{framed_begin, create_begins, receives_after, named_begins}
 
 step_if : (sc : Scenario) (t : ℕ) (m a b : Machine) (c : Bool) → (c ≡ true → Step sc t m a) → (c ≡ false → Step sc t m b) → Step sc t m (if c then a else b)
@@ -68,7 +68,7 @@ bare_begins sc t m to moving name id c task zero = by_room (nat_lt (length (task
     by_room true e =
         begun_answer sc t m (enqueued (counted m t) to (bare t id)) (calls.Send to moving name id) (store_reply sc m t (calls.Send to moving name id)) c refl refl
         (queued_begun (counted m t) t to (bare t id) ∙ ap (λ (x : Tasked). x.begun) (counted_task m t c.range))
-        (ap is_answering (queued_frame (counted m t) t to (bare t id)) ∙ (ap (λ (x : Tasked). is_answering x.frame) (counted_task m t c.range) ∙ ap is_answering c.frame))
+        (subst Answered (sym (queued_frame (counted m t) t to (bare t id))) (unanswered sc t m (calls.Send to moving name id) c))
         (seen_queued (counted m t) to (bare t id) e ∙ (ap (λ s. queued s to (record { sender = t; id = id; voucher = None })) (counted_seen m t)
         ∙ sym (ap (λ r. if is_want r then seen m else store_after_call sc (seen m) t (calls.Send to moving name id)) (bare_reply sc t m to moving name id true task zero (room_before true e)) ∙ rw (task, zero) refl)))
         (inl (refl, ap (option_all_live (seen m)) (bare_given sc t m to moving name id task zero)))
@@ -108,7 +108,7 @@ bare_recv sc t m [] c e none =
 bare_recv sc t m (q ∷ queue) c e none =
     begun_answer sc t m mid calls.Recv (store_reply sc m t calls.Recv) c refl refl
     (ap (λ (x : Tasked). x.begun) own ∙ ap (λ (x : Tasked). x.begun) (counted_task m t c.range))
-    (ap (λ (x : Tasked). is_answering x.frame) own ∙ (ap (λ (x : Tasked). is_answering x.frame) (counted_task m t c.range) ∙ ap is_answering c.frame))
+    (subst (λ (x : Tasked). Answered x.frame) (sym own) (unanswered sc t m calls.Recv c))
     (seen_taken (counted m t) t queue ∙ (ap (λ s. taken_first s t (map (message_of m.live) queue)) (counted_seen m t) ∙ sym (rw there rw none refl)))
     (inl (refl, ap (λ xs. option_all_live (seen m) (voucher_received sc t xs)) there ∙ rw none refl))
   where

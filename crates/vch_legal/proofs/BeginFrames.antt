@@ -26,7 +26,7 @@ use Rattle.vch_machine.specs.Frames.{with_frame, replied}
 use Rattle.vch_machine.specs.Naming.{handles_of}
 use Rattle.vch_machine.specs.Next.{nth_call}
 use Rattle.vch_legal.specs.Facts.{Fits, bit}
-use Rattle.vch_legal.specs.Tie.{FormsCreate, Forms, IsForming, transfer_keys, first_in, is_answering}
+use Rattle.vch_legal.specs.Tie.{FormsCreate, Forms, IsForming, transfer_keys, first_in, is_answering, IsOpen}
 use Rattle.vch_legal.proofs.Forming.{LiveAt}
 use Rattle.vch_legal.proofs.OwnTask.{set_keeps, Near, near_queued}
 use Rattle.vch_legal.proofs.SeenNames.{LiveAll}
@@ -51,6 +51,7 @@ framed_begin sc t m call v ks c forms = record {
   begun = subst (λ (x : Tasked). x.begun ≤ lines_until sc (phases_in m.past + 1) t) (sym own) c.more;
   forming = subst (λ (x : Tasked). IsForming sc m.live (member_of m.live x) t x.begun x.frame) (sym own)
       (forms_in sc m.live (member_of m.live (tasked m t)) t ((tasked m t).begun + 1) (fresh_frame v ks) v None call refl refl c.there forms);
+  open_frame = subst (λ (x : Tasked). IsOpen x.frame) (sym own) refl;
 }
   where
     own : tasked (with_frame (counted m t) t (Some (fresh_frame v ks))) t ≡ record (begun_one (tasked m t)) { frame = Some (fresh_frame v ks) }

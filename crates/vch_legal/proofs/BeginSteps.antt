@@ -31,7 +31,7 @@ use Rattle.vch_legal.proofs.SeenTasks.{member_seen, seen_same, seen_frame, own_t
 use Rattle.vch_legal.proofs.SeenCalls.{seen_less, room_seen, seen_queued, seen_taken}
 use Rattle.vch_legal.proofs.Lifts.{Lives}
 use Rattle.vch_legal.proofs.Standing.{Step}
-use Rattle.vch_legal.proofs.OwnSteps.{Before, unformed, call_follows, closed_answers}
+use Rattle.vch_legal.proofs.OwnSteps.{Before, Answered, unformed, call_follows, closed_answered}
 
 -- a task that begins its next call
 pub record Starting (sc : Scenario) (t : ℕ) (m : Machine) (call : Call) : Type 0 where
@@ -59,14 +59,15 @@ start_number sc t m call c = c.before.counted ∙ (ap (λ f. calls_in m.past t +
 
 -- the call is answered, in a state that has it counted
 pub begun_answer : (sc : Scenario) (t : ℕ) (m mid : Machine) (call : Call) (reply : Reply) → Starting sc t m call → mid.past ≡ m.past → mid.live ≡ m.live → (tasked mid t).begun ≡ (tasked m t).begun + 1
-    → is_answering (tasked mid t).frame ≡ false → seen mid ≡ (if is_want reply then seen m else store_after_call sc (seen m) t call) → IsAnswer sc m.past (seen m) t call reply
+    → Answered (tasked mid t).frame → seen mid ≡ (if is_want reply then seen m else store_after_call sc (seen m) t call) → IsAnswer sc m.past (seen m) t call reply
     → Step sc t m (replied mid t call reply)
 begun_answer sc t m mid call reply c past live begun answered store answer = record {
   follows = call_follows sc t m (replied mid t call reply) ((tasked m t).begun + 1) call reply c.before (ap (λ a. a + 1) number) c.more c.there added store answer;
   lives = Lives.Same live;
-  counted = begun ∙ (ap (λ a. a + 1) number ∙ sym (counts ∙ (ap (λ b. calls_in mid.past t + 1 + bit b) answered ∙ (plus_none (calls_in mid.past t + 1) ∙ ap (λ p. calls_in p t + 1) past))));
+  counted = begun ∙ (ap (λ a. a + 1) number ∙ sym (counts ∙ (ap (λ b. calls_in mid.past t + 1 + bit b) answered.quiet ∙ (plus_none (calls_in mid.past t + 1) ∙ ap (λ p. calls_in p t + 1) past))));
   begun = subst (λ b. b ≤ lines_until sc (phases_in m.past + 1) t) (sym begun) c.more;
-  forming = unformed sc mid.live (member_of mid.live (tasked mid t)) t (tasked mid t).begun (tasked mid t).frame answered;
+  forming = unformed sc mid.live (member_of mid.live (tasked mid t)) t (tasked mid t).begun (tasked mid t).frame answered.quiet;
+  open_frame = answered.open_frame;
 }
   where
     number : (tasked m t).begun ≡ calls_in m.past t
@@ -84,12 +85,17 @@ begun_answer sc t m mid call reply c past live begun answered store answer = rec
     counts : calls_in (replied mid t call reply).past t + bit (is_answering (tasked mid t).frame) ≡ calls_in mid.past t + 1 + bit (is_answering (tasked mid t).frame)
     counts = ap (λ b. calls_in mid.past t + (if b then 1 else 0) + bit (is_answering (tasked mid t).frame)) (own t)
 
+-- no frame is there
+pub unanswered : (sc : Scenario) (t : ℕ) (m : Machine) (call : Call) → Starting sc t m call → Answered (tasked (counted m t) t).frame
+unanswered sc t m call c =
+    subst (λ (x : Tasked). Answered x.frame) (sym (counted_task m t c.range)) (subst Answered (sym c.frame) (record { quiet = refl; open_frame = tt }))
+
 -- it is answered and nothing else is seen
 pub plain_answer : (sc : Scenario) (t : ℕ) (m : Machine) (call : Call) (reply : Reply) → Starting sc t m call → (if is_want reply then seen m else store_after_call sc (seen m) t call) ≡ seen m
     → IsAnswer sc m.past (seen m) t call reply → Step sc t m (replied (counted m t) t call reply)
 plain_answer sc t m call reply c store answer =
     begun_answer sc t m (counted m t) call reply c refl refl (ap (λ (x : Tasked). x.begun) (counted_task m t c.range))
-    (ap (λ (x : Tasked). is_answering x.frame) (counted_task m t c.range) ∙ ap is_answering c.frame) (counted_seen m t ∙ sym store) answer
+    (unanswered sc t m call c) (counted_seen m t ∙ sym store) answer
 
 pub if_same : {A : Type 0} (b : Bool) (x y : A) → y ≡ x → (if b then x else y) ≡ x
 if_same true x y e = refl
@@ -134,7 +140,7 @@ pub drop_answer : (sc : Scenario) (t : ℕ) (m : Machine) (name : ℕ) → Start
 drop_answer sc t m name c =
     begun_answer sc t m (with_frame mid t (closed g)) (calls.GiveUp name) (store_reply sc m t (calls.GiveUp name)) c refl refl
     (ap (λ (x : Tasked). x.begun) own ∙ (ap (λ (x : Tasked). x.begun) mid_own ∙ ap (λ (x : Tasked). x.begun) (counted_task m t c.range)))
-    (ap (λ (x : Tasked). is_answering x.frame) own ∙ closed_answers g)
+    (subst (λ (x : Tasked). Answered x.frame) (sym own) (closed_answered g refl))
     (seen_frame mid t (closed g) ∙ (seen_less (counted m t) t name ∙ (ap (λ s. store_after_call sc s t (calls.GiveUp name)) (counted_seen m t)
     ∙ sym (ap (λ b. if b then seen m else store_after_call sc (seen m) t (calls.GiveUp name)) (never (named_voucher (seen m) t name))))))
     (inl (refl, refl))

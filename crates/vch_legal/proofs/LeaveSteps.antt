@@ -9,11 +9,11 @@ use Rattle.vch_model.specs.Store as store
 use Rattle.vch_model.specs.Store.{Member}
 use Rattle.vch_model.specs.After.{store_after}
 use Rattle.vch_model.specs.Legal.{IsUnheld, find_made}
-use Rattle.vch_machine.specs.State.{Place, same_place, Living, Claim, Frame, Tasked, Tally, Machine, tasked, seen, living_at, without_place, member_of, alive_of, is_held, is_expected, frame_holds, is_place}
+use Rattle.vch_machine.specs.State.{Place, same_place, Living, Claim, Frame, Tasked, Tally, Machine, tasked, seen, living_at, without_place, member_of, alive_of, is_held, is_expected, frame_holds, is_place, is_empty}
 use Rattle.vch_machine.specs.Frames.{closed, with_frame, tallied}
 use Rattle.vch_machine.specs.Leaving.{is_fixed, is_fixed_value, claim_if, more_claims, do_let_go, released, with_answer, one_ask, do_ask, again, do_recheck, made_of}
 use Rattle.vch_legal.specs.Facts.{Fits, spot, spot_fits}
-use Rattle.vch_legal.specs.Tie.{IsForming, is_answering}
+use Rattle.vch_legal.specs.Tie.{IsForming, is_answering, is_open}
 use Rattle.vch_legal.proofs.AskSpots.{without_other}
 use Rattle.vch_legal.proofs.EventSpots.{fits_of, claimed_before}
 use Rattle.vch_legal.proofs.FrameSpots.{kept_named, others_expect, claims_before, claims_behind, task_in_range}
@@ -27,7 +27,7 @@ use Rattle.vch_legal.proofs.SeenValues.{numbered, plain_numbered}
 use Rattle.vch_legal.proofs.Follows.{Follows, kept_eq}
 use Rattle.vch_legal.proofs.Lifts.{Lives, forming_kept, map_lives}
 use Rattle.vch_legal.proofs.Standing.{Step}
-use Rattle.vch_legal.proofs.OwnSteps.{Before, framed_step, closed_forming, closed_answers}
+use Rattle.vch_legal.proofs.OwnSteps.{Before, framed_step, closed_forming, closed_open, closed_answers}
 
 -- what is counted is not looked at
 tallied_follows : (sc : Scenario) (t : ℕ) (m n : Machine) (c : Tally → Tally) → Follows sc t m n → Follows sc t m (tallied c n)
@@ -45,6 +45,7 @@ tallied_step sc t m n c s = record {
   counted = s.counted;
   begun = s.begun;
   forming = s.forming;
+  open_frame = s.open_frame;
 }
 
 -- what the frame forms, before the event
@@ -57,13 +58,13 @@ pub closed_step : (sc : Scenario) (t : ℕ) (m : Machine) (f g : Frame) → Befo
 closed_step sc t m f g s e same forming =
     framed_step sc t m (with_frame m t (closed g)) (closed g) s (Follows.Quiet refl (seen_frame m t (closed g))) (Lives.Same refl) refl
     (own_task m t (record (tasked m t) { frame = closed g }) (task_in_range m t f e)) (closed_answers g ∙ (same ∙ sym (ap is_answering e)))
-    (closed_forming g sc m.live (member_of m.live (tasked m t)) t (tasked m t).begun forming)
+    (closed_forming g sc m.live (member_of m.live (tasked m t)) t (tasked m t).begun forming) (closed_open g)
 
 pub open_step : (sc : Scenario) (t : ℕ) (m : Machine) (f g : Frame) → Before sc t m → (tasked m t).frame ≡ Some f → is_some g.forming ≡ is_some f.forming
-    → IsForming sc m.live (member_of m.live (tasked m t)) t (tasked m t).begun (Some g) → Step sc t m (with_frame m t (Some g))
-open_step sc t m f g s e same forming =
+    → IsForming sc m.live (member_of m.live (tasked m t)) t (tasked m t).begun (Some g) → is_open g ≡ true → Step sc t m (with_frame m t (Some g))
+open_step sc t m f g s e same forming open_frame =
     framed_step sc t m (with_frame m t (Some g)) (Some g) s (Follows.Quiet refl (seen_frame m t (Some g))) (Lives.Same refl) refl
-    (own_task m t (record (tasked m t) { frame = Some g }) (task_in_range m t f e)) (same ∙ sym (ap is_answering e)) forming
+    (own_task m t (record (tasked m t) { frame = Some g }) (task_in_range m t f e)) (same ∙ sym (ap is_answering e)) forming open_frame
 
 pub let_go_step : (sc : Scenario) (t : ℕ) (m : Machine) (f : Frame) (q : Place) (rest : List Place) → Before sc t m → (tasked m t).frame ≡ Some f → Step sc t m (do_let_go m t f q rest)
 let_go_step sc t m f q rest s e =
@@ -111,6 +112,13 @@ live_forming sc t m n f s e lives same =
     (forming_kept sc m.live n.live (member_of m.live (tasked m t)) (member_of n.live (tasked m t)) t (tasked m t).begun (tasked m t).frame
     (kept_eq _ _ same) (λ g v. map_lives m n lives t g v) s.forming)
 
+-- a frame with a claim has something to do
+claim_open : (f : Frame) (c : Claim) → is_open (record f { claim = Some c }) ≡ true
+claim_open f c = third (is_some f.forming) (is_some f.receipt) (not (is_empty f.lets))
+  where
+    third : (a b d : Bool) → (a || (b || (true || d))) ≡ true
+    third a b d = grind arith
+
 released_step : (sc : Scenario) (t : ℕ) (m : Machine) (f : Frame) (c : Claim) (a : Living) → Fits sc m → Before sc t m → (tasked m t).frame ≡ Some f → living_at m.live c.place ≡ Some a
     → is_fixed m c.place ≡ false → is_held m c.place ≡ false → is_expected m c.place ≡ false → Step sc t m (with_frame (released m c.place) t (with_answer f c true))
 released_step sc t m f c a fits s e live plain held expected =
@@ -120,7 +128,7 @@ released_step sc t m f c a fits s e live plain held expected =
     (subst (λ (o : Option Living). IsUnheld (seen m) (find_made (seen m).live (made_of o))) (sym live)
     (released_legal m c.place a fits.different (numbered sc m fits) live positive held)) tt)
     lives refl (own_task (released m c.place) t (record (tasked m t) { frame = with_answer f c true }) (task_in_range m t f e)) (sym (ap is_answering e))
-    (live_forming sc t m n f s e lives own)
+    (live_forming sc t m n f s e lives own) (claim_open f (record c { answer = Some true }))
   where
     n : Machine
     n = with_frame (released m c.place) t (with_answer f c true)
@@ -153,7 +161,7 @@ step_if sc t m a b false x y = y refl
 -- Ask: an agreed question appends a Released entry that may follow
 pub ask_step : (sc : Scenario) (t : ℕ) (m : Machine) (f : Frame) (c : Claim) → Fits sc m → Before sc t m → (tasked m t).frame ≡ Some f → f.claim ≡ Some c → is_some c.answer ≡ false → Step sc t m (do_ask m t f c)
 ask_step sc t m f c fits s e claim a =
-    tallied_step sc t m _ one_ask (step_if sc t m _ _ c.raced (λ r. open_step sc t m f (record f { claim = Some (record c { answer = Some false }) }) s e refl (forming_of sc t m f s e))
+    tallied_step sc t m _ one_ask (step_if sc t m _ _ c.raced (λ r. open_step sc t m f (record f { claim = Some (record c { answer = Some false }) }) s e refl (forming_of sc t m f s e) (claim_open f (record c { answer = Some false })))
     (λ r. by_living (agreed_at_place sc t m f c fits e claim a r) (living_at m.live c.place) refl))
   where
     by_living : Agreed (is_some (living_at m.live c.place)) (is_fixed m c.place) (is_held m c.place) (is_expected m c.place) → (o : Option Living) → living_at m.live c.place ≡ o

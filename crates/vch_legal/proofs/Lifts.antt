@@ -13,12 +13,12 @@ use Rattle.vch_model.specs.Voucher.{Voucher}
 use Rattle.vch_model.specs.Store as store
 use Rattle.vch_model.specs.Store.{Member, voucher_of}
 use Rattle.vch_model.specs.Lines.{calls_in, phases_in, is_task, lines_until}
-use Rattle.vch_machine.specs.State.{Handles, of_key, with_key, Place, same_place, Living, Named, Message, Frame, Tasked, Machine, idle, tasked, seen, valued, member_of, is_handle, has_place, option_has, frame_holds, task_holds, is_held, is_expected, is_place, frame_expects}
-use Rattle.vch_machine.specs.Making.{on_frame}
+use Rattle.vch_machine.specs.State.{Handles, of_key, with_key, Place, same_place, Living, Named, Message, Claim, Frame, Tasked, Machine, idle, tasked, seen, valued, member_of, is_handle, has_place, option_has, frame_holds, task_holds, is_held, is_expected, is_place, frame_expects}
+use Rattle.vch_machine.specs.Making.{on_claim, on_frame}
 use Rattle.vch_machine.specs.Next.{nth_call}
 use Rattle.vch_machine.proofs.Others.{Leaves, still, still_claim}
 use Rattle.vch_legal.specs.Facts.{Fits, bit}
-use Rattle.vch_legal.specs.Tie.{Forms, FormsCreate, FormsSend, FrameForms, IsForming, is_answering, TaskStands, map_with, place_with, keys_with}
+use Rattle.vch_legal.specs.Tie.{Forms, FormsCreate, FormsSend, FrameForms, IsForming, is_answering, is_open, IsOpen, TaskStands, map_with, place_with, keys_with}
 use Rattle.vch_legal.proofs.EventSpots.{cases_bool}
 use Rattle.vch_legal.proofs.SeenSame.{AgreeBut, voucher_same}
 use Rattle.vch_legal.proofs.SeenTasks.{member_seen, none_at}
@@ -107,6 +107,22 @@ forming_stilled : (sc : Scenario) (live : List Living) (x : Member) (t begun : �
 forming_stilled sc live x t begun None h = h
 forming_stilled sc live x t begun (Some f) h = h
 
+open_still : (f : Option Frame) → IsOpen f → IsOpen (on_frame still_claim f)
+open_still None h = h
+open_still (Some f) h = by_claim f.claim h
+  where
+    by_claim : (c : Option Claim) → is_open (record f { claim = c }) ≡ true → is_open (record f { claim = on_claim still_claim c }) ≡ true
+    by_claim None h = h
+    by_claim (Some c) h = h
+
+open_stilled : (f : Option Frame) → IsOpen (on_frame still_claim f) → IsOpen f
+open_stilled None h = h
+open_stilled (Some f) h = by_claim f.claim h
+  where
+    by_claim : (c : Option Claim) → is_open (record f { claim = on_claim still_claim c }) ≡ true → is_open (record f { claim = c }) ≡ true
+    by_claim None h = h
+    by_claim (Some c) h = h
+
 answering_still : (f : Option Frame) → is_answering (on_frame still_claim f) ≡ is_answering f
 answering_still None = refl
 answering_still (Some f) = refl
@@ -123,6 +139,7 @@ other_stands sc t u m n apart places leaves follows lives s = record {
       (forming_still sc n.live (member_of n.live (tasked n u)) u (tasked n u).begun (tasked m u).frame
       (subst (λ b. IsForming sc n.live (member_of n.live (tasked n u)) u b (tasked m u).frame) (sym begun)
       (forming_kept sc m.live n.live (member_of m.live (tasked m u)) (member_of n.live (tasked n u)) u (tasked m u).begun (tasked m u).frame kept (λ g v. map_lives m n lives u g v) s.forming))));
+  open_frame = open_stilled (tasked n u).frame (subst IsOpen (sym (ap (λ x. x.frame) leaves.task)) (open_still (tasked m u).frame s.open_frame));
 }
   where
     begun : (tasked n u).begun ≡ (tasked m u).begun

@@ -16,13 +16,13 @@ use Rattle.vch_model.specs.Voucher.{Voucher, set_at}
 use Rattle.vch_model.specs.Store as store
 use Rattle.vch_model.specs.Store.{Member}
 use Rattle.vch_model.specs.After.{store_after}
-use Rattle.vch_machine.specs.State.{Handles, of_key, with_key, Place, same_place, Living, Frame, Tasked, Machine, tasked, seen, living_at, handle_of, value_of, value_at, valued, alive_of, member_of, is_held, is_expected}
+use Rattle.vch_machine.specs.State.{Handles, of_key, with_key, Place, same_place, Living, Frame, Tasked, Machine, tasked, seen, living_at, handle_of, value_of, value_at, valued, alive_of, member_of, is_held, is_expected, is_empty}
 use Rattle.vch_machine.specs.Frames.{closed, with_frame, tallied, refuse}
 use Rattle.vch_machine.specs.Making.{Asked, asked_by, moved, fresh_handle, minted, race_claim, back_claim, on_claim, on_task, on_claims, given_receipt, made_at, make_done, make_asked, do_make, one_refer, do_refer}
 use Rattle.vch_machine.specs.Naming.{item}
 use Rattle.vch_machine.specs.Next.{nth_call, call_next}
 use Rattle.vch_legal.specs.Facts.{Fits, ValueFits}
-use Rattle.vch_legal.specs.Tie.{Forms, moved_place, moved_keys, map_with, is_answering, IsForming}
+use Rattle.vch_legal.specs.Tie.{Forms, moved_place, moved_keys, map_with, is_answering, is_open, IsForming}
 use Rattle.vch_legal.proofs.EventSpots.{cases_bool}
 use Rattle.vch_legal.proofs.Forming.{valued_with}
 use Rattle.vch_legal.proofs.FrameSpots.{task_in_range}
@@ -37,7 +37,7 @@ use Rattle.vch_legal.proofs.HeldLive.{dead_unheld, dead_unexpected}
 use Rattle.vch_legal.proofs.Follows.{Follows, kept_eq}
 use Rattle.vch_legal.proofs.Lifts.{Lives, forms_kept, map_lives}
 use Rattle.vch_legal.proofs.Standing.{Step}
-use Rattle.vch_legal.proofs.OwnSteps.{framed_step, closed_forming, closed_answers}
+use Rattle.vch_legal.proofs.OwnSteps.{framed_step, closed_forming, closed_open, closed_answers}
 use Rattle.vch_legal.proofs.LeaveSteps.{tallied_step, closed_step, open_step}
 use Rattle.vch_legal.proofs.Nexts.{at_keys, forms_at, forms_in, moved_is}
 use Rattle.vch_legal.proofs.Refusals.{Calling, calling_answers}
@@ -104,7 +104,7 @@ lost_step sc t m f v call k c forming receipt forms =
     subst (λ (x : Frame). Step sc t m (with_frame m t (Some x))) (sym (moved_is call g))
     (open_step sc t m f (at_keys g (moved_place call f.at_byte f.keys) (moved_keys call f.at_byte f.keys)) c.before c.frame (sym (ap is_some forming))
     (forms_in sc m.live (member_of m.live (tasked m t)) t (tasked m t).begun (at_keys g (moved_place call f.at_byte f.keys) (moved_keys call f.at_byte f.keys)) (with_key k None v) None call refl receipt c.there
-    (subst (λ (x : Voucher). Forms sc (member_of m.live (tasked m t)) t call (moved_place call f.at_byte f.keys) (moved_keys call f.at_byte f.keys) x) (sym (valued_with m.live k None v)) forms)))
+    (subst (λ (x : Voucher). Forms sc (member_of m.live (tasked m t)) t call (moved_place call f.at_byte f.keys) (moved_keys call f.at_byte f.keys) x) (sym (valued_with m.live k None v)) forms)) refl)
   where
     g : Frame
     g = record f { forming = Some (with_key k None v); lets = f.lets ++ item k (of_key k v) }
@@ -112,6 +112,12 @@ lost_step sc t m f v call k c forming receipt forms =
 -- the frame with its receipt
 abbrev received_frame : Frame → Place → Frame
 received_frame f p = record f { receipt = Some p; claim = on_claim (race_claim p) f.claim }
+
+receipt_open : (f : Frame) (p : Place) → is_open (received_frame f p) ≡ true
+receipt_open f p = second (is_some f.forming) (is_some (on_claim (race_claim p) f.claim) || not (is_empty f.lets))
+  where
+    second : (a d : Bool) → (a || (true || d)) ≡ true
+    second a d = grind arith
 
 given_own : (n : Machine) (t : ℕ) (f : Frame) (p : Place) → t - 1 < length n.tasks → tasked (given_receipt n t f p) t ≡ record (tasked n t) { frame = Some (received_frame f p) }
 given_own n t f p l =
@@ -137,7 +143,7 @@ found_step sc t m f v call k x h fits c forming found forms =
     framed_step sc t m (given_receipt m t f p) (Some (received_frame f p)) c.before (Follows.Quiet refl (given_seen m t f p)) (Lives.Same refl) refl
     (given_own m t f p (task_in_range m t f c.frame)) (sym (ap is_answering c.frame))
     (received_forming sc m.live (member_of m.live (tasked m t)) t (tasked m t).begun f v call k h (set_at k (Some x) (valued m.live v)) forming c.there
-    (valued_with m.live k (Some h) v ∙ ap (λ o. set_at k o (valued m.live v)) (found_value m.live k x h (at_most_once m fits.each_once) found)) forms)
+    (valued_with m.live k (Some h) v ∙ ap (λ o. set_at k o (valued m.live v)) (found_value m.live k x h (at_most_once m fits.each_once) found)) forms) (receipt_open f p)
   where
     p : Place
     p = record { key = k; handle = h }
@@ -159,7 +165,7 @@ minted_step sc t m f v call k x fits c forming receipt absent forms fits_after =
     (received_forming sc n.live (member_of n.live (tasked m t)) t (tasked m t).begun f v call k (fresh_handle (of_key k m.pools)) (set_at k (Some x) (valued m.live v)) forming c.there
     (valued_with n.live k (Some (fresh_handle (of_key k m.pools))) v
     ∙ (ap (λ o. set_at k (value_of o) (valued n.live v)) here ∙ ap (set_at k (Some x)) kept))
-    (forms_kept sc (member_of m.live (tasked m t)) (member_of n.live (tasked m t)) t call _ _ _ (kept_eq _ _ own) forms))
+    (forms_kept sc (member_of m.live (tasked m t)) (member_of n.live (tasked m t)) t call _ _ _ (kept_eq _ _ own) forms)) (receipt_open f q)
   where
     q : Place
     q = record { key = k; handle = fresh_handle (of_key k m.pools) }
@@ -255,7 +261,7 @@ refer_step sc t m f v call q c forming receipt =
     (closed_answers next ∙ sym (calling_answers sc t m f call c))
     (closed_forming next sc m.live (member_of m.live (tasked m t)) t (tasked m t).begun
     (forms_in sc m.live (member_of m.live (tasked m t)) t (tasked m t).begun next (with_key q.key (Some q.handle) v) None call refl refl c.there
-    (forms_at sc t m f v (Some q) call c.before c.frame forming receipt c.there)))))
+    (forms_at sc t m f v (Some q) call c.before c.frame forming receipt c.there))) (closed_open next)))
   where
     g : Frame
     g = record f { forming = Some (with_key q.key (Some q.handle) v); lets = f.lets ++ item q.key (of_key q.key v); receipt = None }

@@ -15,7 +15,7 @@ use Rattle.vch_machine.specs.State.{Living, Handles, Frame, Tasked, Machine, idl
 use Rattle.vch_machine.specs.Frames.{closed}
 use Rattle.vch_machine.specs.Next.{nth_call, call_in}
 use Rattle.vch_legal.specs.Facts.{bit}
-use Rattle.vch_legal.specs.Tie.{FrameForms, IsForming, is_answering, TaskStands}
+use Rattle.vch_legal.specs.Tie.{FrameForms, IsForming, is_answering, is_open, IsOpen, TaskStands}
 use Rattle.vch_legal.proofs.PhaseLines.{phase_of_line}
 use Rattle.vch_legal.proofs.Follows.{Follows}
 use Rattle.vch_legal.proofs.Lifts.{Lives}
@@ -28,14 +28,15 @@ Before sc t m = TaskStands sc m.past m.live t (tasked m t)
 -- the frame is changed
 pub framed_step : (sc : Scenario) (t : ℕ) (m n : Machine) (g : Option Frame) → Before sc t m → Follows sc t m n → Lives m n → calls_in n.past t ≡ calls_in m.past t
     → tasked n t ≡ record (tasked m t) { frame = g } → is_answering g ≡ is_answering (tasked m t).frame
-    → IsForming sc n.live (member_of n.live (tasked m t)) t (tasked m t).begun g → Step sc t m n
-framed_step sc t m n g s follows lives same_calls own answers forming = record {
+    → IsForming sc n.live (member_of n.live (tasked m t)) t (tasked m t).begun g → IsOpen g → Step sc t m n
+framed_step sc t m n g s follows lives same_calls own answers forming open_frame = record {
   follows = follows;
   lives = lives;
   counted = subst (λ (x : Tasked). x.begun ≡ calls_in n.past t + bit (is_answering x.frame)) (sym own)
       (s.counted ∙ (ap (λ c. c + bit (is_answering (tasked m t).frame)) (sym same_calls) ∙ ap (λ b. calls_in n.past t + bit b) (sym answers)));
   begun = subst (λ (x : Tasked). x.begun ≤ lines_until sc (phases_in m.past + 1) t) (sym own) s.begun;
   forming = subst (λ (x : Tasked). IsForming sc n.live (member_of n.live x) t x.begun x.frame) (sym own) forming;
+  open_frame = subst (λ (x : Tasked). IsOpen x.frame) (sym own) open_frame;
 }
 
 -- where nothing is formed, nothing is to be shown
@@ -54,6 +55,13 @@ closed_by false g sc live x t begun h = tt
 pub closed_forming : (g : Frame) (sc : Scenario) (live : List Living) (x : Member) (t begun : ℕ) → IsForming sc live x t begun (Some g) → IsForming sc live x t begun (closed g)
 closed_forming g sc live x t begun h = closed_by _ g sc live x t begun h
 
+pub closed_open : (g : Frame) → IsOpen (closed g)
+closed_open g = by_open (is_open g) refl
+  where
+    by_open : (b : Bool) → is_open g ≡ b → IsOpen (if b then Some g else None)
+    by_open true e = e
+    by_open false e = tt
+
 pub closed_answers : (g : Frame) → is_answering (closed g) ≡ is_some g.forming
 closed_answers g = by_forming (is_some g.forming) _ refl
   where
@@ -61,6 +69,14 @@ closed_answers g = by_forming (is_some g.forming) _ refl
     by_forming true c e = e
     by_forming false true e = e
     by_forming false false e = refl
+
+-- a frame that is there after its call was answered
+pub record Answered (f : Option Frame) : Type 0 where
+  pub quiet : is_answering f ≡ false
+  pub open_frame : IsOpen f
+
+pub closed_answered : (g : Frame) → g.forming ≡ None → Answered (closed g)
+closed_answered g e = record { quiet = closed_answers g ∙ ap is_some e; open_frame = closed_open g }
 
 -- a call that is there has a line
 abbrev LineFor : Scenario → ℕ → ℕ → Call → Type 0
@@ -96,14 +112,15 @@ call_follows sc t m n k call reply s number high there past store answer = by_li
 -- the event answers the call of its frame
 pub answered_step : (sc : Scenario) (t : ℕ) (m n : Machine) (call : Call) (reply : Reply) → Before sc t m → is_answering (tasked m t).frame ≡ true → nth_call sc t (tasked m t).begun ≡ Some call
     → n.past ≡ entries.Call t (tasked m t).begun (word_of call) reply ∷ m.past → n.live ≡ m.live
-    → (tasked n t).begun ≡ (tasked m t).begun → is_answering (tasked n t).frame ≡ false
+    → (tasked n t).begun ≡ (tasked m t).begun → Answered (tasked n t).frame
     → seen n ≡ (if is_want reply then seen m else store_after_call sc (seen m) t call) → IsAnswer sc m.past (seen m) t call reply → Step sc t m n
 answered_step sc t m n call reply s under there past live begun answered store answer = record {
   follows = call_follows sc t m n (tasked m t).begun call reply s number s.begun there past store answer;
   lives = Lives.Same live;
-  counted = begun ∙ (number ∙ (sym (counts n.past past) ∙ sym (ap (λ b. calls_in n.past t + bit b) answered ∙ plus_none (calls_in n.past t))));
+  counted = begun ∙ (number ∙ (sym (counts n.past past) ∙ sym (ap (λ b. calls_in n.past t + bit b) answered.quiet ∙ plus_none (calls_in n.past t))));
   begun = subst (λ b. b ≤ lines_until sc (phases_in m.past + 1) t) (sym begun) s.begun;
-  forming = unformed sc n.live (member_of n.live (tasked n t)) t (tasked n t).begun (tasked n t).frame answered;
+  forming = unformed sc n.live (member_of n.live (tasked n t)) t (tasked n t).begun (tasked n t).frame answered.quiet;
+  open_frame = answered.open_frame;
 }
   where
     number : (tasked m t).begun ≡ calls_in m.past t + 1

@@ -25,7 +25,7 @@ use Rattle.vch_machine.specs.Naming.{name_of, name_for, with_name, doubled}
 use Rattle.vch_machine.specs.Next.{known_name, first_next, call_next}
 use Rattle.vch_machine.specs.Placing.{ended, place_create, do_place}
 use Rattle.vch_legal.specs.Facts.{Fits}
-use Rattle.vch_legal.specs.Tie.{KeysFit, FormsCreate, Forms, is_answering}
+use Rattle.vch_legal.specs.Tie.{KeysFit, FormsCreate, Forms}
 use Rattle.vch_legal.proofs.FrameSpots.{task_in_range}
 use Rattle.vch_legal.proofs.OwnTask.{named_begun}
 use Rattle.vch_legal.proofs.SeenNames.{LiveAll, AllLive}
@@ -36,7 +36,7 @@ use Rattle.vch_legal.proofs.HeldLive.{forming_live, names_live}
 use Rattle.vch_legal.proofs.Records.{seen_names}
 use Rattle.vch_legal.proofs.Creates.{Names, ended_forms}
 use Rattle.vch_legal.proofs.Standing.{Step}
-use Rattle.vch_legal.proofs.OwnSteps.{answered_step, closed_answers}
+use Rattle.vch_legal.proofs.OwnSteps.{Answered, answered_step, closed_answered}
 use Rattle.vch_legal.proofs.Refusals.{Calling, calling_answers, create_seen, create_wants}
 
 -- the call is answered with another task state, whose frame is at its end
@@ -46,7 +46,7 @@ pub placed_step : (sc : Scenario) (t : ℕ) (m mid : Machine) (f : Frame) (lets 
 placed_step sc t m mid f lets call reply c past live l begun store answer =
     answered_step sc t m (replied (with_frame mid t (ended f lets)) t call reply) call reply c.before (calling_answers sc t m f call c) c.there
     (ap (λ (x : Tasked). entries.Call t x.begun (word_of call) reply ∷ mid.past) own ∙ (ap (λ b. entries.Call t b (word_of call) reply ∷ mid.past) begun ∙ ap (λ p. entries.Call t (tasked m t).begun (word_of call) reply ∷ p) past))
-    live (ap (λ (x : Tasked). x.begun) own ∙ begun) (ap (λ (x : Tasked). is_answering x.frame) own ∙ closed_answers (record f { forming = None; keys = []; lets = f.lets ++ lets }))
+    live (ap (λ (x : Tasked). x.begun) own ∙ begun) (subst (λ (x : Tasked). Answered x.frame) (sym own) (closed_answered (record f { forming = None; keys = []; lets = f.lets ++ lets }) refl))
     (seen_frame mid t (ended f lets) ∙ store) answer
   where
     own : tasked (with_frame mid t (ended f lets)) t ≡ record (tasked mid t) { frame = ended f lets }

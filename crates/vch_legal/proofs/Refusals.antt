@@ -25,7 +25,7 @@ use Rattle.vch_legal.proofs.FrameSpots.{task_in_range}
 use Rattle.vch_legal.proofs.SeenTasks.{member_seen, seen_frame, own_task}
 use Rattle.vch_legal.proofs.Records.{seen_names}
 use Rattle.vch_legal.proofs.Standing.{Step}
-use Rattle.vch_legal.proofs.OwnSteps.{Before, answered_step, closed_answers}
+use Rattle.vch_legal.proofs.OwnSteps.{Before, Answered, answered_step, closed_answered}
 
 -- the names of a task, as the store sees them
 pub names_seen : (m : Machine) (t : ℕ) → voucher_of (member (seen m) t).names ≡ seen_names m.live (tasked m t).names
@@ -48,7 +48,7 @@ pub refuse_step : (sc : Scenario) (t : ℕ) (m : Machine) (f : Frame) (call : Ca
 refuse_step sc t m f call code c store answer =
     answered_step sc t m (refuse m t f call code) call (refused code) c.before (calling_answers sc t m f call c) c.there
     (ap (λ (x : Tasked). entries.Call t x.begun (word_of call) (refused code) ∷ m.past) own) refl (ap (λ (x : Tasked). x.begun) own)
-    (ap (λ (x : Tasked). is_answering x.frame) own ∙ closed_answers g) (seen_frame m t (closed g) ∙ sym store) answer
+    (subst (λ (x : Tasked). Answered x.frame) (sym own) (closed_answered g refl)) (seen_frame m t (closed g) ∙ sym store) answer
   where
     g : Frame
     g = record f { forming = None; keys = []; lets = f.lets ++ option_places f.forming }

@@ -11,7 +11,7 @@ use Rattle.vch_machine.specs.Next.{task_next}
 use Rattle.vch_machine.specs.Events.{event, event_of}
 use Rattle.vch_machine.proofs.Others.{leaves_of}
 use Rattle.vch_legal.specs.Facts.{Fits, bit}
-use Rattle.vch_legal.specs.Tie.{IsForming, is_answering, TaskStands, any_frame, Stands}
+use Rattle.vch_legal.specs.Tie.{IsForming, is_answering, IsOpen, TaskStands, any_frame, Stands}
 use Rattle.vch_legal.proofs.EventSpots.{cases_bool}
 use Rattle.vch_legal.proofs.SeenTasks.{none_at}
 use Rattle.vch_legal.proofs.PhaseLines.{all_lines}
@@ -25,6 +25,7 @@ pub record Step (sc : Scenario) (t : ℕ) (m n : Machine) : Type 0 where
   pub counted : (tasked n t).begun ≡ calls_in n.past t + bit (is_answering (tasked n t).frame)
   pub begun : (tasked n t).begun ≤ lines_until sc (phases_in m.past + 1) t
   pub forming : IsForming sc n.live (member_of n.live (tasked n t)) t (tasked n t).begun (tasked n t).frame
+  pub open_frame : IsOpen (tasked n t).frame
 
 more_calls : (e : Entry) (past : List Entry) (t : ℕ) → calls_in past t ≤ calls_in (e ∷ past) t
 more_calls (entries.Call u n word reply) past t = omega arith
@@ -46,6 +47,7 @@ own_stands sc t m n step s =
       begun = subst (λ q. (tasked n t).begun ≤ lines_until sc (q + 1) t) (sym p) step.begun;
       answered = subst (λ q. lines_until sc q t ≤ calls_in n.past t) (sym p) (omega arith);
       forming = step.forming;
+      open_frame = step.open_frame;
     }
 
 -- two tasks have two places

@@ -52,7 +52,7 @@ work_result sc t m f v bytes r rest (Ok w) c forming receipt forms empty e a g =
     open_step sc t m f (record f { forming = Some w.forming; at_byte = f.at_byte + (16 + length r.content); lets = f.lets ++ w.left }) c.before c.frame (sym (ap is_some forming))
     (forms_in sc m.live (member_of m.live (tasked m t)) t (tasked m t).begun (record f { forming = Some w.forming; at_byte = f.at_byte + (16 + length r.content); lets = f.lets ++ w.left }) w.forming None (calls.Create bytes) refl receipt c.there
     (subst (λ (ks : List Key). FormsCreate (seen_names m.live (tasked m t).names) t bytes (f.at_byte + (16 + length r.content)) ks (valued m.live w.forming)) (sym empty)
-    (worked_forms (seen_names m.live (tasked m t).names) t bytes f.at_byte (valued m.live v) (valued m.live w.forming) r rest forms e a (sym g))))
+    (worked_forms (seen_names m.live (tasked m t).names) t bytes f.at_byte (valued m.live v) (valued m.live w.forming) r rest forms e a (sym g)))) refl
 work_result sc t m f v bytes r rest (Err code) c forming receipt forms empty e a g =
     create_refused sc t m f bytes code c forms.some forms.few (refused_forms (seen_names m.live (tasked m t).names) t bytes f.at_byte (valued m.live v) r rest code forms e (sym g))
 

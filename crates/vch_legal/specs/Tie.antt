@@ -1,6 +1,6 @@
 -- What ties the machine to the sequential store, and what a frame is forming: what the call makes from here on, with its
 -- receipt taken, is what the whole call makes in the store.
-use Rattle.std.specs.Prelude.{◌≡◌, ℕ, ◌+◌, ◌≤◌, Bool, true, false, ◌==◌, nat_lt, ◌&&◌, not, if◌then◌else◌, List, [], ◌∷◌, length, drop, Option, Some, None, Result, Ok, Err, ℤ, pos, is_some}
+use Rattle.std.specs.Prelude.{◌≡◌, ℕ, ◌+◌, ◌≤◌, Bool, true, false, ◌==◌, nat_lt, ◌&&◌, ◌||◌, not, if◌then◌else◌, List, [], ◌∷◌, length, drop, Option, Some, None, Result, Ok, Err, ℤ, pos, is_some}
 use Rattle.std.specs.List.{list_any}
 use Rattle.vch_base.specs.declared.key.Key.{Key}
 use Rattle.vch_base.specs.declared.value.Value.{Value}
@@ -145,6 +145,14 @@ abbrev pub is_answering : Option Frame → Bool
 is_answering None = false
 is_answering (Some f) = is_some f.forming
 
+-- a frame that is there has something left to do
+abbrev pub is_open : Frame → Bool
+is_open f = is_some f.forming || (is_some f.receipt || (is_some f.claim || not (is_empty f.lets)))
+
+abbrev pub IsOpen : Option Frame → Type 0
+IsOpen None = Unit {0}
+IsOpen (Some f) = is_open f ≡ true
+
 -- what is kept of one task: its calls begun are those answered and one that is under way, all of the phases that ended are
 -- answered, none of a phase to come was begun, and what its frame forms
 pub record TaskStands (sc : Scenario) (past : List Entry) (live : List Living) (t : ℕ) (x : Tasked) : Type 0 where
@@ -152,6 +160,7 @@ pub record TaskStands (sc : Scenario) (past : List Entry) (live : List Living) (
   pub begun : x.begun ≤ lines_until sc (phases_in past + 1) t
   pub answered : lines_until sc (phases_in past) t ≤ calls_in past t
   pub forming : IsForming sc live (member_of live x) t x.begun x.frame
+  pub open_frame : IsOpen x.frame
 
 abbrev pub any_frame : List Tasked → Bool
 any_frame xs = list_any (λ (x : Tasked). is_some x.frame) xs
