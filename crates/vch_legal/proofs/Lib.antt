@@ -10,6 +10,7 @@ pub mod ClaimMaps
 pub mod CreateMakes
 pub mod Creates
 pub mod EventSpots
+pub mod EventSteps
 pub mod Follows
 pub mod Forming
 pub mod FrameSpots
