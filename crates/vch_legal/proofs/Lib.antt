@@ -1,4 +1,5 @@
 pub mod AskSpots
+pub mod AtRest
 pub mod BeginCalls
 pub mod BeginFrames
 pub mod BeginSpots

@@ -122,3 +122,24 @@ all_counted c (x ∷ xs) b =
 -- after the last phase all lines are counted
 pub all_lines : (sc : Scenario) (t p : ℕ) → length sc.phases ≤ p → lines_until sc p t ≡ length (lines_of sc t)
 all_lines sc t p h = all_counted p (lines_of sc t) (below_filtered p (λ x. x.1.task == t) (lines_from 1 sc.phases) (below p 1 sc.phases (omega arith)))
+
+-- before the first phase there is no line
+pub no_lines : (sc : Scenario) (t : ℕ) → lines_until sc 0 t ≡ 0
+no_lines sc t = none_early 0 1 (lines_of sc t) (filtered 1 (λ x. x.1.task == t) (lines_from 1 sc.phases) (rising 1 sc.phases)) (omega arith)
+
+more_counted : (c : ℕ) (xs : List (ℕ × Line)) → count c xs ≤ count (c + 1) xs
+more_counted c [] = omega arith
+more_counted c (x ∷ xs) =
+    let i : count c xs ≤ count (c + 1) xs = more_counted c xs in
+    cases_bool (nat_le x.0 c) (count c (x ∷ xs) ≤ count (c + 1) (x ∷ xs))
+    (λ a. let b : nat_le x.0 (c + 1) ≡ true = wider x.0 c a in rw (a, b) (omega arith))
+    (λ a. cases_bool (nat_le x.0 (c + 1)) (count c (x ∷ xs) ≤ count (c + 1) (x ∷ xs))
+    (λ b. rw (a, b) (omega arith))
+    (λ b. rw (a, b) i))
+  where
+    wider : (a b : ℕ) → nat_le a b ≡ true → nat_le a (b + 1) ≡ true
+    wider a b h = grind arith
+
+-- a further phase has no fewer lines
+pub more_lines : (sc : Scenario) (p t : ℕ) → lines_until sc p t ≤ lines_until sc (p + 1) t
+more_lines sc p t = more_counted p (lines_of sc t)

@@ -58,7 +58,7 @@ found_behind l live p a h e =
 some_eq : {A : Type 0} (a b : A) → Some a ≡ Some b → a ≡ b
 some_eq a b e = cc
 
-found_place : (live : List Living) (p : Place) (a : Living) → living_at live p ≡ Some a → a.place ≡ p
+pub found_place : (live : List Living) (p : Place) (a : Living) → living_at live p ≡ Some a → a.place ≡ p
 found_place [] p a e = cc
 found_place (l ∷ live) p a e =
     cases_bool (same_place l.place p) (a.place ≡ p)
