@@ -34,6 +34,7 @@ pub mod PutSpots
 pub mod Records
 pub mod ReferSpots
 pub mod Refusals
+pub mod Runs
 pub mod SeenCalls
 pub mod SeenHeld
 pub mod SeenNames
