@@ -1,11 +1,8 @@
 pub mod AskSpots
-<<<<<<< HEAD
 pub mod BeginOwn
-=======
 pub mod AtRest
 pub mod BeginCalls
 pub mod BeginFrames
->>>>>>> cc48fd72dd9b6b2b00f4bed508ffbb519513c4b8
 pub mod BeginSpots
 pub mod BeginSteps
 pub mod Burdens
@@ -13,12 +10,9 @@ pub mod CarrySteps
 pub mod Cases
 pub mod Charges
 pub mod ClaimMaps
-<<<<<<< HEAD
 pub mod Conservation
-=======
 pub mod CreateMakes
 pub mod Creates
->>>>>>> cc48fd72dd9b6b2b00f4bed508ffbb519513c4b8
 pub mod EventSpots
 pub mod EventSteps
 pub mod Follows
@@ -27,12 +21,9 @@ pub mod FrameSpots
 pub mod HeldLive
 pub mod Keeps
 pub mod LeaveSpots
-<<<<<<< HEAD
 pub mod Ledgers
-=======
 pub mod LeaveSteps
 pub mod Lifts
->>>>>>> cc48fd72dd9b6b2b00f4bed508ffbb519513c4b8
 pub mod LiveKeeps
 pub mod MakeGoes
 pub mod MakeSpots
