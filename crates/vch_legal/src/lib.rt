@@ -7,11 +7,12 @@
 //! while it is asked to be released. The facts of one handle (`spot_fits`) say what such a moment can look like.
 #![tactic(auto)]
 
-ghost use Rattle.std.specs.Prelude.{◌≡◌, ◌≤◌, ℕ, Bool, List, Option, Some};
+ghost use Rattle.std.specs.Prelude.{◌≡◌, ◌≤◌, ℕ, Bool, true, List, reverse, Option, Some};
 ghost use Rattle.vch_model.specs.declared.lists.Scenario.{Scenario};
 ghost use Rattle.vch_machine.specs.State.{Machine, start};
 ghost use Rattle.vch_machine.specs.Events.{event, phase_event};
-ghost use Rattle.vch_machine.specs.Schedules.{Move, run_from_start};
+ghost use Rattle.vch_machine.specs.Schedules.{Move, run_from_start, has_ended};
+ghost use Rattle.vch_model.specs.Legal.{Legal, Whole};
 ghost use Rattle.vch_legal.specs.Facts.{Fits};
 
 /// A law: the state at the start meets the facts.
@@ -38,4 +39,16 @@ pub fn run_fits()
 #[tactic(auto, using(crate::proofs::Keeps::asks_at_most))]
 pub fn asks_are_at_most_refers()
     ensures { (sc : Scenario) (moves : List Move) (n : Machine) → run_from_start sc moves ≡ Some n → n.tally.asks ≤ n.tally.refers }
+{}
+
+/// A law: the history of every run is legal. In whatever order the tasks' events fall, and wherever memory is wanted, each
+/// entry is one that the sequential store allows there. `past` has its newest entry first.
+pub fn every_run_is_legal()
+    ensures { (sc : Scenario) (moves : List Move) (n : Machine) → run_from_start sc moves ≡ Some n → Legal (reverse n.past) sc }
+{}
+
+/// A law: where all phases of a run have ended, its history is whole: each task's calls stand in it once and in their
+/// order, there is one end for each phase, and each live value but Default is held.
+pub fn every_ended_run_is_whole()
+    ensures { (sc : Scenario) (moves : List Move) (n : Machine) → run_from_start sc moves ≡ Some n → has_ended sc n ≡ true → Whole (reverse n.past) sc }
 {}
