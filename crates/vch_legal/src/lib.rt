@@ -7,15 +7,16 @@
 //! while it is asked to be released. The facts of one handle (`spot_fits`) say what such a moment can look like.
 #![tactic(auto)]
 
-ghost use Rattle.std.specs.Prelude.{◌≡◌, ◌≤◌, ◌+◌, ℕ, Bool, List, length, Option, Some};
 ghost use Rattle.vch_model.specs.declared.entry.Entry.{Entry};
 ghost use Rattle.vch_model.specs.Legal.{LegalPast};
 ghost use Rattle.vch_model.specs.Totals.{held, out, ledger};
 ghost use Rattle.vch_legal.specs.Conserved.{each_task, accepted, dues};
+ghost use Rattle.std.specs.Prelude.{◌≡◌, ◌≤◌, ◌+◌, ℕ, Bool, true, List, length, reverse, Option, Some};
 ghost use Rattle.vch_model.specs.declared.lists.Scenario.{Scenario};
 ghost use Rattle.vch_machine.specs.State.{Machine, start};
 ghost use Rattle.vch_machine.specs.Events.{event, phase_event};
-ghost use Rattle.vch_machine.specs.Schedules.{Move, run_from_start};
+ghost use Rattle.vch_machine.specs.Schedules.{Move, run_from_start, has_ended};
+ghost use Rattle.vch_model.specs.Legal.{Legal, Whole};
 ghost use Rattle.vch_legal.specs.Facts.{Fits};
 
 /// A law: the state at the start meets the facts.
@@ -54,4 +55,14 @@ pub fn held_is_out()
 #[tactic(auto, using(crate::proofs::Ledgers::charges_are_kept))]
 pub fn charges_are_kept()
     ensures { (sc : Scenario) (past : List Entry) → LegalPast sc past → accepted sc past ≡ each_task (ledger sc past) (length sc.flags) + dues sc past }
+/// A law: the history of every run is legal. In whatever order the tasks' events fall, and wherever memory is wanted, each
+/// entry is one that the sequential store allows there. `past` has its newest entry first.
+pub fn every_run_is_legal()
+    ensures { (sc : Scenario) (moves : List Move) (n : Machine) → run_from_start sc moves ≡ Some n → Legal (reverse n.past) sc }
+{}
+
+/// A law: where all phases of a run have ended, its history is whole: each task's calls stand in it once and in their
+/// order, there is one end for each phase, and each live value but Default is held.
+pub fn every_ended_run_is_whole()
+    ensures { (sc : Scenario) (moves : List Move) (n : Machine) → run_from_start sc moves ≡ Some n → has_ended sc n ≡ true → Whole (reverse n.past) sc }
 {}
