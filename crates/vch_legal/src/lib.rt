@@ -45,16 +45,6 @@ pub fn asks_are_at_most_refers()
     ensures { (sc : Scenario) (moves : List Move) (n : Machine) → run_from_start sc moves ≡ Some n → n.tally.asks ≤ n.tally.refers }
 {}
 
-/// A law: after every legal history, the assertions that all tasks hold add up to those that all tasks gave.
-#[tactic(auto, using(crate::proofs::Conservation::held_is_out))]
-pub fn held_is_out()
-    ensures { (sc : Scenario) (past : List Entry) → LegalPast sc past → each_task (held sc past) (length sc.flags) ≡ each_task (out sc past) (length sc.flags) }
-{}
-
-/// A law: after every legal history, the accepted charges add up to all ledgers and all that is due on live accounts.
-#[tactic(auto, using(crate::proofs::Ledgers::charges_are_kept))]
-pub fn charges_are_kept()
-    ensures { (sc : Scenario) (past : List Entry) → LegalPast sc past → accepted sc past ≡ each_task (ledger sc past) (length sc.flags) + dues sc past }
 /// A law: the history of every run is legal. In whatever order the tasks' events fall, and wherever memory is wanted, each
 /// entry is one that the sequential store allows there. `past` has its newest entry first.
 pub fn every_run_is_legal()
@@ -65,4 +55,22 @@ pub fn every_run_is_legal()
 /// order, there is one end for each phase, and each live value but Default is held.
 pub fn every_ended_run_is_whole()
     ensures { (sc : Scenario) (moves : List Move) (n : Machine) → run_from_start sc moves ≡ Some n → has_ended sc n ≡ true → Whole (reverse n.past) sc }
+{}
+
+/// A law: at every moment of every run, and after every legal history, the assertions that all tasks hold add up to those that
+/// are out from all tasks.
+pub fn held_is_out()
+    ensures history { (sc : Scenario) (past : List Entry) → LegalPast sc past →
+        each_task (held sc past) (length sc.flags) ≡ each_task (out sc past) (length sc.flags) }
+    ensures run { (sc : Scenario) (moves : List Move) (n : Machine) → run_from_start sc moves ≡ Some n →
+        each_task (held sc n.past) (length sc.flags) ≡ each_task (out sc n.past) (length sc.flags) }
+{}
+
+/// A law: at every moment of every run, and after every legal history, the accepted charges add up to all ledgers and all that
+/// is due on live accounts.
+pub fn charges_are_kept()
+    ensures history { (sc : Scenario) (past : List Entry) → LegalPast sc past →
+        accepted sc past ≡ each_task (ledger sc past) (length sc.flags) + dues sc past }
+    ensures run { (sc : Scenario) (moves : List Move) (n : Machine) → run_from_start sc moves ≡ Some n →
+        accepted sc n.past ≡ each_task (ledger sc n.past) (length sc.flags) + dues sc n.past }
 {}
