@@ -51,10 +51,10 @@ chain_told w =
     told_bind (λ ts. AreOrdinals (parts_of w) ts) (λ list. ChainAt w list) (ordinals (parts_of w)) _ (ordinals_told (parts_of w))
     (λ ts h. told_test (λ list. ChainAt w list) (leb (length ts) 8) (Some ts) None
     (λ t. let few : length ts ≤ 8 = grind (arith, common_steps) in
-      record {
-        word = sym (join_with_byte-slice_split 44 w) ∙ ap (λ (ps : List (List ℕ)). join_with_byte 44 ps) h.words;
-        is = record { some = omega (arith, ap length h.words, length_words ts, length-slice_split (λ c. eqb c 44) w); few = few; numbers = h.numbers };
-      }) (λ f. tt))
+    record {
+      word = sym (join_with_byte-slice_split 44 w) ∙ ap (λ (ps : List (List ℕ)). join_with_byte 44 ps) h.words;
+      is = record { some = omega (arith, ap length h.words, length_words ts, length-slice_split (λ c. eqb c 44) w); few = few; numbers = h.numbers };
+    }) (λ f. tt))
 
 -- ---- and back
 

@@ -90,9 +90,9 @@ total_told rest =
     (λ u n. record {
       good = (h.number, (hx.small, hy.small, hz.small));
       text =
-        ap (λ l. codes "task" ++ l)
-        (h.parts ∙ ap (num t.0) (ha ∙ ap (said (codes "ledger")) (hx.parts ∙ ap (num x.0) (hb ∙ ap (said (codes "held")) (hy.parts ∙ ap (num y.0) (hc ∙ ap (said (codes "out")) (hz.parts ∙ ap (num z.0) n)))))))
-        ∙ sym (total_line t.0 (record { ledger = x.0; held = y.0; out = z.0 }));
+          ap (λ l. codes "task" ++ l)
+          (h.parts ∙ ap (num t.0) (ha ∙ ap (said (codes "ledger")) (hx.parts ∙ ap (num x.0) (hb ∙ ap (said (codes "held")) (hy.parts ∙ ap (num y.0) (hc ∙ ap (said (codes "out")) (hz.parts ∙ ap (num z.0) n)))))))
+          ∙ sym (total_line t.0 (record { ledger = x.0; held = y.0; out = z.0 }));
     }))))))))
 
 counts_told : (rest : List ℕ) → Told (λ i. IsLine (codes "vouchers" ++ rest) i) (counts_of rest)
@@ -195,10 +195,16 @@ total_again t x h g =
     let b = num x.held (said (codes "out") c) in
     let a = num x.ledger (said (codes "held") b) in
     first_word (codes "task") (num t (said (codes "ledger") a)) refl (a_space _)
-    ∙ rw (ordinal_at_again t (said (codes "ledger") a) h (a_space _), after_again (codes "ledger") a refl (a_space _),
-    below_at_again (2 ^ 128) x.ledger (said (codes "held") b) (omega arith) g.0 (a_space _), after_again (codes "held") b refl (a_space _),
-    below_at_again (2 ^ 128) x.held (said (codes "out") c) (omega arith) g.1 (a_space _), after_again (codes "out") c refl (a_space _),
-    below_at_again (2 ^ 128) x.out [] (omega arith) g.2 no_more, end_again [] refl) refl
+    ∙ rw (
+      ordinal_at_again t (said (codes "ledger") a) h (a_space _),
+      after_again (codes "ledger") a refl (a_space _),
+      below_at_again (2 ^ 128) x.ledger (said (codes "held") b) (omega arith) g.0 (a_space _),
+      after_again (codes "held") b refl (a_space _),
+      below_at_again (2 ^ 128) x.held (said (codes "out") c) (omega arith) g.1 (a_space _),
+      after_again (codes "out") c refl (a_space _),
+      below_at_again (2 ^ 128) x.out [] (omega arith) g.2 no_more,
+      end_again [] refl,
+    ) refl
 
 pub item_again : (i : Item) → IsItem i → item_of (item_text i) ≡ Some i
 item_again items.Title h = title_again
