@@ -1,13 +1,12 @@
 -- A word that spells a list of tasks: what is read of it, and that it is read.
-use Rattle.std.proofs.Common.{◌≡◌, ℕ, zero, suc, ◌+◌, ◌^◌, ◌<◌, ◌≤◌, Bool, true, false, cond, eqb, leb, List, [], ◌∷◌, ◌++◌, length, map, Option, Some, None, refl, sym, ap, subst, ◌∙◌, arith}
+use Rattle.std.proofs.Common.{◌≡◌, ℕ, suc, ◌≤◌, false, eqb, leb, List, [], ◌∷◌, ◌++◌, length, map, Some, None, refl, sym, ap, ◌∙◌, arith}
 use Rattle.std.proofs.lemmas.Grind.{common_steps}
 use Rattle.std.proofs.lemmas.Bool.{le-leb}
 use Rattle.std.proofs.lemmas.List.Elements.{All-cons, All-nil}
 use Rattle.std.proofs.lemmas.List.Splits.{join_with_byte-slice_split, slice_split_none, slice_split_at, length-slice_split}
-use Rattle.std.specs.List.{AllByRecursion, All, join_with_byte, slice_split}
+use Rattle.std.specs.List.{AllByRecursion, All, join_with_byte}
 use Rattle.std.specs.Fmt.{decimal}
 use Rattle.vch_model.specs.Grammar.{IsDecimal}
-use Rattle.vch_text.specs.Reading.{◌>>=◌}
 use Rattle.vch_text.proofs.Told.{Told, told_bind, told_test}
 use Rattle.vch_text.proofs.Decimals.{decimal_numeral}
 use Rattle.vch_text.proofs.Plain.{IsPlain, decimal_plain}

@@ -1,5 +1,5 @@
 -- What stands behind the word `made`, both ways.
-use Rattle.std.proofs.Common.{◌≡◌, ℕ, ◌+◌, ◌^◌, ◌<◌, ◌≤◌, Bool, true, false, cond, eqb, List, [], ◌∷◌, ◌++◌, length, Option, Some, None, refl, sym, ap, subst, ◌∙◌, arith, codes, append_assoc, append-nil}
+use Rattle.std.proofs.Common.{◌≡◌, ℕ, ◌+◌, ◌<◌, ◌≤◌, Bool, true, false, cond, eqb, List, [], ◌∷◌, ◌++◌, length, Option, Some, None, refl, sym, ap, subst, ◌∙◌, arith, codes, append-nil}
 use Rattle.std.proofs.lemmas.Grind.{common_steps}
 use Rattle.std.proofs.lemmas.Fmt.{decimal_digit}
 use Rattle.std.specs.Fmt.{decimal}
@@ -8,14 +8,12 @@ use Rattle.vch_base.specs.declared.value.Value.{Value}
 use Rattle.vch_base.specs.declared.value.Value.TheVariants as values
 use Rattle.vch_base.specs.declared.key.Key.{Key}
 use Rattle.vch_base.specs.declared.key.Key.TheVariants as keys
-use Rattle.vch_base.specs.Keys.{key_of}
 use Rattle.vch_base.specs.Values.{BelongsAt}
 use Rattle.vch_model.specs.declared.entry.Entry.{Entry}
 use Rattle.vch_model.specs.declared.entry.Entry.TheVariants as entries
 use Rattle.vch_model.specs.Text.{hex_of, value_text, entry_text}
-use Rattle.vch_text.specs.Reading.{◌>>=◌}
 use Rattle.vch_text.specs.Words.{is_word, word_at, end_of}
-use Rattle.vch_text.proofs.Told.{Told, told_bind, told_test, told_map, word_true, word_same}
+use Rattle.vch_text.proofs.Told.{Told, told_bind, told_test, word_true}
 use Rattle.vch_text.proofs.WordsBack.{word_told, end_told, end_again}
 use Rattle.vch_text.proofs.Plain.{above_plain, hex_plain, IsLow}
 use Rattle.vch_model.specs.Grammar.{Begins}

@@ -8,7 +8,7 @@ use Rattle.vch_report.specs.declared.item.Item.{Item}
 use Rattle.vch_report.specs.declared.item.Item.TheVariants as items
 use Rattle.vch_report.specs.declared.draft.Place.{Place}
 use Rattle.vch_report.specs.declared.draft.Place.TheVariants as places
-use Rattle.vch_report.specs.WellFormed.{IsNumber, IsEntry, IsTotal}
+use Rattle.vch_report.specs.WellFormed.{IsEntry, IsTotal}
 use Rattle.vch_report.specs.Items.{item_text}
 use Rattle.vch_report.specs.Lines.{item_of}
 use Rattle.vch_report.specs.Reading.{Read, nothing, with_item, with_total, step_of}

@@ -1,4 +1,4 @@
-use Rattle.std.proofs.Common.{◌∙◌, sym, arith, length, length-append, [], ◌∷◌, ◌++◌}
+use Rattle.std.proofs.Common.{◌∙◌, sym, arith, length-append, [], ◌∷◌}
 use Rattle.vch_report.proofs.Chains.{first_none, first_some, next_none, next_some, next_many, no_more, left_shorter}
 use Rattle.vch_report.proofs.values.chain.Goals as goal
 
