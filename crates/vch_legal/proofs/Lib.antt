@@ -27,9 +27,11 @@ pub mod MakeSteps
 pub mod Nexts
 pub mod OwnSteps
 pub mod OwnTask
+pub mod PhaseCounts
 pub mod PhaseLines
 pub mod PlaceSteps
 pub mod Places
+pub mod Possible
 pub mod PutSpots
 pub mod Records
 pub mod ReferSpots
