@@ -52,6 +52,7 @@ pub mod TallyKeeps
 pub mod TaskKeeps
 pub mod TaskLists
 pub mod TransferSpots
+pub mod Turns
 pub mod Values
 pub mod ValuesMade
 pub mod WorkSpots
