@@ -37,6 +37,7 @@ pub mod Records
 pub mod ReferSpots
 pub mod Refusals
 pub mod Runs
+pub mod ScheduleRuns
 pub mod SeenCalls
 pub mod SeenHeld
 pub mod SeenNames

@@ -27,7 +27,7 @@ all_append : (P : ℕ → Type 0) (xs : List ℕ) (x : ℕ) → AllByRecursion P
 all_append P [] x h k = (k, tt)
 all_append P (y ∷ xs) x h k = (h.0, all_append P xs x h.1 k)
 
-all_numbers : (P : ℕ → Type 0) (n : ℕ) → ((t : ℕ) → 0 < t → t ≤ n → P t) → AllByRecursion P (numbers n)
+pub all_numbers : (P : ℕ → Type 0) (n : ℕ) → ((t : ℕ) → 0 < t → t ≤ n → P t) → AllByRecursion P (numbers n)
 all_numbers P zero h = tt
 all_numbers P (suc n) h = all_append P (numbers n) (suc n) (all_numbers P n (λ t a b. h t a (omega arith))) (h (suc n) (omega arith) (omega arith))
 
@@ -39,7 +39,7 @@ last_of : (P : ℕ → Type 0) (xs : List ℕ) (x : ℕ) → AllByRecursion P (x
 last_of P [] x h = h.0
 last_of P (y ∷ xs) x h = last_of P xs x h.1
 
-number_of_all : (P : ℕ → Type 0) (n : ℕ) → AllByRecursion P (numbers n) → (t : ℕ) → 0 < t → t ≤ n → P t
+pub number_of_all : (P : ℕ → Type 0) (n : ℕ) → AllByRecursion P (numbers n) → (t : ℕ) → 0 < t → t ≤ n → P t
 number_of_all P zero h t a b = absurd (omega arith)
 number_of_all P (suc n) h t a b =
     cases_bool (t == suc n) (P t)
@@ -52,26 +52,26 @@ number_of_all P (suc n) h t a b =
     earlier : (a b : ℕ) → a ≤ suc b → (a == suc b) ≡ false → a ≤ b
     earlier a b h e = grind arith
 
-all_tasks : (sc : Scenario) → AllByRecursion (λ t. is_task sc t ≡ true) (numbers (length sc.flags))
+pub all_tasks : (sc : Scenario) → AllByRecursion (λ t. is_task sc t ≡ true) (numbers (length sc.flags))
 all_tasks sc = all_numbers (λ t. is_task sc t ≡ true) (length sc.flags) (λ t a b. task_of sc t a b)
 
 -- the lowest task with a frame
 
-record Opened (sc : Scenario) (m : Machine) (t : ℕ) : Type 0 where
-  task : is_task sc t ≡ true
-  frame : is_some (tasked m t).frame ≡ true
+pub record Opened (sc : Scenario) (m : Machine) (t : ℕ) : Type 0 where
+  pub task : is_task sc t ≡ true
+  pub frame : is_some (tasked m t).frame ≡ true
 
 some_number : {a b : ℕ} → Some a ≡ Some b → a ≡ b
 some_number e = cc
 
-lowest_some : (sc : Scenario) (m : Machine) (ts : List ℕ) (t : ℕ) → AllByRecursion (λ t. is_task sc t ≡ true) ts → lowest_open m ts ≡ Some t → Opened sc m t
+pub lowest_some : (sc : Scenario) (m : Machine) (ts : List ℕ) (t : ℕ) → AllByRecursion (λ t. is_task sc t ≡ true) ts → lowest_open m ts ≡ Some t → Opened sc m t
 lowest_some sc m [] t h e = cc
 lowest_some sc m (u ∷ ts) t h e =
     cases_bool (is_some (tasked m u).frame) (Opened sc m t)
     (λ here. let g : Some u ≡ Some t = rw here at e in subst (Opened sc m) (some_number g) (record { task = h.0; frame = here }))
     (λ other. lowest_some sc m ts t h.1 (rw other at e))
 
-lowest_none : (m : Machine) (ts : List ℕ) → lowest_open m ts ≡ None → AllByRecursion (λ t. is_some (tasked m t).frame ≡ false) ts
+pub lowest_none : (m : Machine) (ts : List ℕ) → lowest_open m ts ≡ None → AllByRecursion (λ t. is_some (tasked m t).frame ≡ false) ts
 lowest_none m [] e = tt
 lowest_none m (u ∷ ts) e =
     cases_bool (is_some (tasked m u).frame) (AllByRecursion (λ t. is_some (tasked m t).frame ≡ false) (u ∷ ts))
@@ -79,7 +79,7 @@ lowest_none m (u ∷ ts) e =
     (λ other. (other, lowest_none m ts (rw other at e)))
 
 -- a frame has a next event
-opened_next : (sc : Scenario) (m : Machine) (t : ℕ) → Before sc t m → is_some (tasked m t).frame ≡ true → is_some (next_kind sc m t) ≡ true
+pub opened_next : (sc : Scenario) (m : Machine) (t : ℕ) → Before sc t m → is_some (tasked m t).frame ≡ true → is_some (next_kind sc m t) ≡ true
 opened_next sc m t s h = by_frame (tasked m t).frame refl h s.forming s.open_frame
   where
     by_frame : (f : Option Frame) → (tasked m t).frame ≡ f → is_some f ≡ true → IsForming sc m.live (member_of m.live (tasked m t)) t (tasked m t).begun f → IsOpen f → is_some (task_next sc (phases_in m.past) t (tasked m t) f) ≡ true
@@ -111,7 +111,7 @@ at_most a b h = grind arith
 above : (a b : ℕ) → nat_lt a b ≡ true → a < b
 above a b h = grind arith
 
-waiting_some : (sc : Scenario) (m : Machine) (seen : List ℕ) (lines : List Line) (t : ℕ) → first_waiting sc m seen lines ≡ Some t
+pub waiting_some : (sc : Scenario) (m : Machine) (seen : List ℕ) (lines : List Line) (t : ℕ) → first_waiting sc m seen lines ≡ Some t
     → begun_by m t < count_by (λ u. u == t) seen + of_task t lines + so_far sc m t
 waiting_some sc m seen [] t e = cc
 waiting_some sc m seen (line ∷ lines) t e =
@@ -123,14 +123,14 @@ waiting_some sc m seen (line ∷ lines) t e =
     (let h : begun_by m line.task ≤ count_by (λ u. u == line.task) seen + so_far sc m line.task = at_most _ _ b in
     let k : bit (line.task == line.task) ≡ 1 = ap bit (own_number line.task) in omega arith))
 
-waiting_in : (sc : Scenario) (m : Machine) (seen : List ℕ) (lines : List Line) (t : ℕ) → AllByRecursion (λ l. IsIn (length sc.flags) l) lines → first_waiting sc m seen lines ≡ Some t → is_task sc t ≡ true
+pub waiting_in : (sc : Scenario) (m : Machine) (seen : List ℕ) (lines : List Line) (t : ℕ) → AllByRecursion (λ l. IsIn (length sc.flags) l) lines → first_waiting sc m seen lines ≡ Some t → is_task sc t ≡ true
 waiting_in sc m seen [] t h e = cc
 waiting_in sc m seen (line ∷ lines) t h e =
     cases_bool (nat_lt (count_by (λ u. u == line.task) seen + so_far sc m line.task) (begun_by m line.task)) (is_task sc t ≡ true)
     (λ b. waiting_in sc m (line.task ∷ seen) lines t h.1 (rw b at e))
     (λ b. let g : Some line.task ≡ Some t = rw b at e in subst (λ u. is_task sc u ≡ true) (some_number g) (task_of sc line.task h.0.0 h.0.1))
 
-waiting_none : (sc : Scenario) (m : Machine) (seen : List ℕ) (lines : List Line) (t : ℕ) → first_waiting sc m seen lines ≡ None → 0 < of_task t lines
+pub waiting_none : (sc : Scenario) (m : Machine) (seen : List ℕ) (lines : List Line) (t : ℕ) → first_waiting sc m seen lines ≡ None → 0 < of_task t lines
     → count_by (λ u. u == t) seen + of_task t lines + so_far sc m t ≤ begun_by m t
 waiting_none sc m seen [] t e h = absurd (omega arith)
 waiting_none sc m seen (line ∷ lines) t e h =
