@@ -7,12 +7,13 @@
 //! while it is asked to be released. The facts of one handle (`spot_fits`) say what such a moment can look like.
 #![tactic(auto)]
 
-ghost use Rattle.std.specs.Prelude.{◌≡◌, ◌≤◌, ℕ, Bool, true, List, reverse, Option, Some};
+ghost use Rattle.std.specs.Prelude.{◌≡◌, ◌≤◌, ℕ, Bool, true, List, reverse, Option, Some, is_some};
 ghost use Rattle.vch_model.specs.declared.lists.Scenario.{Scenario};
 ghost use Rattle.vch_machine.specs.State.{Machine, start};
 ghost use Rattle.vch_machine.specs.Events.{event, phase_event};
-ghost use Rattle.vch_machine.specs.Schedules.{Move, run_from_start, has_ended};
+ghost use Rattle.vch_machine.specs.Schedules.{Move, run_from_start, has_ended, in_turn, by_seed};
 ghost use Rattle.vch_model.specs.Legal.{Legal, Whole};
+ghost use Rattle.vch_model.specs.Scenarios.{IsLimited};
 ghost use Rattle.vch_legal.specs.Facts.{Fits};
 
 /// A law: the state at the start meets the facts.
@@ -51,4 +52,15 @@ pub fn every_run_is_legal()
 /// order, there is one end for each phase, and each live value but Default is held.
 pub fn every_ended_run_is_whole()
     ensures { (sc : Scenario) (moves : List Move) (n : Machine) → run_from_start sc moves ≡ Some n → has_ended sc n ≡ true → Whole (reverse n.past) sc }
+{}
+
+/// A law: the schedule in turn gives a run of each scenario within the limits: every move that it names can happen. `wants`
+/// says at which moves memory is wanted, and `bound` how many moves there are at most.
+pub fn in_turn_is_a_run()
+    ensures { (sc : Scenario) (wants : ℕ → Bool) (bound : ℕ) → IsLimited sc → is_some (run_from_start sc (in_turn bound wants sc (Some (start sc)))) ≡ true }
+{}
+
+/// A law: the schedule by seed gives a run: every move that it names can happen.
+pub fn by_seed_is_a_run()
+    ensures { (sc : Scenario) (wants : ℕ → Bool) (bound seed : ℕ) → is_some (run_from_start sc (by_seed bound seed wants sc (Some (start sc)))) ≡ true }
 {}
