@@ -2,12 +2,15 @@ pub mod AskSpots
 pub mod AtRest
 pub mod BeginCalls
 pub mod BeginFrames
+pub mod BeginOwn
 pub mod BeginSpots
 pub mod BeginSteps
 pub mod Burdens
 pub mod CarrySteps
 pub mod Cases
+pub mod Charges
 pub mod ClaimMaps
+pub mod Conservation
 pub mod CreateMakes
 pub mod Creates
 pub mod EventSpots
@@ -19,6 +22,7 @@ pub mod HeldLive
 pub mod Keeps
 pub mod LeaveSpots
 pub mod LeaveSteps
+pub mod Ledgers
 pub mod Lifts
 pub mod LiveKeeps
 pub mod MakeGoes
@@ -49,6 +53,8 @@ pub mod Shapes
 pub mod SpotSteps
 pub mod Standing
 pub mod StartFits
+pub mod StoreKeeps
+pub mod StoreLegal
 pub mod TallyKeeps
 pub mod TaskKeeps
 pub mod TaskLists
