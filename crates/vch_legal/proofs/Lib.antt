@@ -64,3 +64,4 @@ pub mod Values
 pub mod ValuesMade
 pub mod WorkSpots
 pub mod WorkSteps
+pub mod RunSums

@@ -79,3 +79,15 @@ pub fn held_is_out()
 pub fn charges_are_kept()
     ensures { (sc : Scenario) (past : List Entry) → LegalPast sc past → accepted sc past ≡ each_task (ledger sc past) (length sc.flags) + dues sc past }
 {}
+
+/// A law: at every moment of every run, the assertions that all tasks hold add up to those that all tasks gave.
+#[tactic(auto, using(crate::proofs::RunSums::run_held_is_out))]
+pub fn held_is_out_in_every_run()
+    ensures { (sc : Scenario) (moves : List Move) (n : Machine) → run_from_start sc moves ≡ Some n → each_task (held sc n.past) (length sc.flags) ≡ each_task (out sc n.past) (length sc.flags) }
+{}
+
+/// A law: at every moment of every run, the accepted charges add up to all ledgers and all that is due on live accounts.
+#[tactic(auto, using(crate::proofs::RunSums::run_charges_are_kept))]
+pub fn charges_are_kept_in_every_run()
+    ensures { (sc : Scenario) (moves : List Move) (n : Machine) → run_from_start sc moves ≡ Some n → accepted sc n.past ≡ each_task (ledger sc n.past) (length sc.flags) + dues sc n.past }
+{}
