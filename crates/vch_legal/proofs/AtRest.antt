@@ -54,7 +54,7 @@ formed_has_next sc live x t begun names f None call e h = cc
 formed_has_next sc live x t begun names f (Some v) None e h = absurd h
 formed_has_next sc live x t begun names f (Some v) (Some call) e h = call_has_next names f.at_byte f.keys call
 
-frame_has_next : (sc : Scenario) (live : List Living) (x : store.Member) (t begun : ℕ) (names : List Named) (f : Frame) → IsForming sc live x t begun (Some f) → is_open f ≡ true
+pub frame_has_next : (sc : Scenario) (live : List Living) (x : store.Member) (t begun : ℕ) (names : List Named) (f : Frame) → IsForming sc live x t begun (Some f) → is_open f ≡ true
     → is_some (frame_next names f (nth_call sc t begun) f.receipt) ≡ true
 frame_has_next sc live x t begun names f forming h = by_receipt f.receipt h
   where

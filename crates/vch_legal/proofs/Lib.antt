@@ -1,8 +1,8 @@
 pub mod AskSpots
-pub mod BeginOwn
 pub mod AtRest
 pub mod BeginCalls
 pub mod BeginFrames
+pub mod BeginOwn
 pub mod BeginSpots
 pub mod BeginSteps
 pub mod Burdens
@@ -21,8 +21,8 @@ pub mod FrameSpots
 pub mod HeldLive
 pub mod Keeps
 pub mod LeaveSpots
-pub mod Ledgers
 pub mod LeaveSteps
+pub mod Ledgers
 pub mod Lifts
 pub mod LiveKeeps
 pub mod MakeGoes
@@ -31,14 +31,17 @@ pub mod MakeSteps
 pub mod Nexts
 pub mod OwnSteps
 pub mod OwnTask
+pub mod PhaseCounts
 pub mod PhaseLines
 pub mod PlaceSteps
 pub mod Places
+pub mod Possible
 pub mod PutSpots
 pub mod Records
 pub mod ReferSpots
 pub mod Refusals
 pub mod Runs
+pub mod ScheduleRuns
 pub mod SeenCalls
 pub mod SeenHeld
 pub mod SeenNames
@@ -56,7 +59,9 @@ pub mod TallyKeeps
 pub mod TaskKeeps
 pub mod TaskLists
 pub mod TransferSpots
+pub mod Turns
 pub mod Values
 pub mod ValuesMade
 pub mod WorkSpots
 pub mod WorkSteps
+pub mod RunSums

@@ -1,6 +1,5 @@
 -- Texts and their lines.
-use Rattle.std.proofs.Common.{◌≡◌, ℕ, ◌+◌, ◌^◌, ◌<◌, ◌≤◌, Bool, true, false, cond, eqb, List, [], ◌∷◌, ◌++◌, length, Option, Some, None, refl, sym, ap, subst, ◌∙◌, arith, codes, append_assoc, append-nil}
-use Rattle.std.proofs.lemmas.Grind.{common_steps}
+use Rattle.std.proofs.Common.{◌≡◌, ℕ, ◌+◌, Bool, true, false, cond, eqb, List, [], ◌∷◌, ◌++◌, Some, refl, sym, ap, subst, ◌∙◌, codes, append_assoc, append-nil}
 use Rattle.std.specs.List.{AllByRecursion, flat_map}
 use Rattle.vch_model.specs.declared.entry.Entry.{Entry}
 use Rattle.vch_model.specs.declared.total.Total.{Total}
@@ -8,16 +7,16 @@ use Rattle.vch_model.specs.Text.{newline, entry_line, total_lines, last_lines, c
 use Rattle.vch_model.specs.TextLines.{split_of, with_line_before, with_byte}
 use Rattle.vch_text.specs.Words.{joined}
 use Rattle.vch_text.proofs.Splits.{split_joined}
-use Rattle.vch_text.proofs.Plain.{IsLow, split_line}
+use Rattle.vch_text.proofs.Plain.{split_line}
 use Rattle.vch_report.specs.declared.item.Item.{Item}
 use Rattle.vch_report.specs.declared.item.Item.TheVariants as items
 use Rattle.vch_report.specs.declared.report.Report.{Report}
 use Rattle.vch_report.specs.WellFormed.{IsWellFormed}
-use Rattle.vch_report.specs.Items.{item_text, text_of}
+use Rattle.vch_report.specs.Items.{item_text}
 use Rattle.vch_report.specs.Faults.{IsReport, lines_text, IsBegun}
-use Rattle.vch_report.specs.Reading.{Read, nothing, step_of, whole}
+use Rattle.vch_report.specs.Reading.{Read, nothing, whole}
 use Rattle.vch_report.proofs.ItemLines.{IsItem, item_low}
-use Rattle.vch_report.proofs.Runs.{step_items, task_items, items_read, Listed, Counted, IsGood, item_lines, lines_append, go, go_told, done, items_of, all_items, go_whole, Ended, ended}
+use Rattle.vch_report.proofs.Runs.{step_items, task_items, items_read, Counted, item_lines, lines_append, go, go_told, items_of, all_items, go_whole, Ended, ended}
 
 -- ---- the text of a report has the lines of its items
 

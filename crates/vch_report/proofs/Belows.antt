@@ -1,9 +1,8 @@
 -- A word that spells a number below a top, both ways.
-use Rattle.std.proofs.Common.{◌≡◌, ℕ, ◌^◌, ◌<◌, ◌≤◌, min, true, false, cond, ltb, List, Option, Some, None, refl, sym, ap, subst, ◌∙◌, arith}
+use Rattle.std.proofs.Common.{◌≡◌, ℕ, ◌^◌, ◌<◌, ◌≤◌, min, cond, ltb, List, Option, Some, None, refl, ap, ◌∙◌, arith}
 use Rattle.std.proofs.lemmas.Grind.{common_steps}
 use Rattle.std.proofs.lemmas.Bool.{lt-ltb}
 use Rattle.std.specs.Fmt.{decimal}
-use Rattle.vch_text.specs.Reading.{◌>>=◌}
 use Rattle.vch_text.specs.Numbers.{number_of}
 use Rattle.vch_text.proofs.Told.{Told, told_bind, told_test}
 use Rattle.vch_text.proofs.NumbersBack.{IsRead, number_told, number_again}

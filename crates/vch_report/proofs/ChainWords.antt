@@ -1,13 +1,12 @@
 -- A word that spells a list of tasks: what is read of it, and that it is read.
-use Rattle.std.proofs.Common.{◌≡◌, ℕ, zero, suc, ◌+◌, ◌^◌, ◌<◌, ◌≤◌, Bool, true, false, cond, eqb, leb, List, [], ◌∷◌, ◌++◌, length, map, Option, Some, None, refl, sym, ap, subst, ◌∙◌, arith}
+use Rattle.std.proofs.Common.{◌≡◌, ℕ, suc, ◌≤◌, false, eqb, leb, List, [], ◌∷◌, ◌++◌, length, map, Some, None, refl, sym, ap, ◌∙◌, arith}
 use Rattle.std.proofs.lemmas.Grind.{common_steps}
 use Rattle.std.proofs.lemmas.Bool.{le-leb}
 use Rattle.std.proofs.lemmas.List.Elements.{All-cons, All-nil}
 use Rattle.std.proofs.lemmas.List.Splits.{join_with_byte-slice_split, slice_split_none, slice_split_at, length-slice_split}
-use Rattle.std.specs.List.{AllByRecursion, All, join_with_byte, slice_split}
+use Rattle.std.specs.List.{AllByRecursion, All, join_with_byte}
 use Rattle.std.specs.Fmt.{decimal}
 use Rattle.vch_model.specs.Grammar.{IsDecimal}
-use Rattle.vch_text.specs.Reading.{◌>>=◌}
 use Rattle.vch_text.proofs.Told.{Told, told_bind, told_test}
 use Rattle.vch_text.proofs.Decimals.{decimal_numeral}
 use Rattle.vch_text.proofs.Plain.{IsPlain, decimal_plain}
@@ -51,10 +50,10 @@ chain_told w =
     told_bind (λ ts. AreOrdinals (parts_of w) ts) (λ list. ChainAt w list) (ordinals (parts_of w)) _ (ordinals_told (parts_of w))
     (λ ts h. told_test (λ list. ChainAt w list) (leb (length ts) 8) (Some ts) None
     (λ t. let few : length ts ≤ 8 = grind (arith, common_steps) in
-      record {
-        word = sym (join_with_byte-slice_split 44 w) ∙ ap (λ (ps : List (List ℕ)). join_with_byte 44 ps) h.words;
-        is = record { some = omega (arith, ap length h.words, length_words ts, length-slice_split (λ c. eqb c 44) w); few = few; numbers = h.numbers };
-      }) (λ f. tt))
+    record {
+      word = sym (join_with_byte-slice_split 44 w) ∙ ap (λ (ps : List (List ℕ)). join_with_byte 44 ps) h.words;
+      is = record { some = omega (arith, ap length h.words, length_words ts, length-slice_split (λ c. eqb c 44) w); few = few; numbers = h.numbers };
+    }) (λ f. tt))
 
 -- ---- and back
 

@@ -1,14 +1,12 @@
 -- Each line of a report, both ways.
-use Rattle.std.proofs.Common.{◌≡◌, ℕ, ◌+◌, ◌^◌, ◌<◌, ◌≤◌, Bool, true, false, cond, List, [], ◌∷◌, ◌++◌, Option, Some, None, refl, sym, ap, subst, ◌∙◌, arith, codes, append_assoc, append-nil}
-use Rattle.std.specs.Fmt.{decimal}
+use Rattle.std.proofs.Common.{◌≡◌, ℕ, ◌^◌, ◌<◌, true, List, [], ◌∷◌, ◌++◌, Option, Some, refl, sym, ap, subst, ◌∙◌, arith, codes, append_assoc, append-nil}
 use Rattle.vch_model.specs.declared.entry.Entry.{Entry}
 use Rattle.vch_model.specs.declared.entry.Entry.TheVariants as entries
 use Rattle.vch_model.specs.declared.total.Total.{Total}
 use Rattle.vch_model.specs.Text.{entry_text, total_text, counts_text}
-use Rattle.vch_text.specs.Reading.{◌>>=◌}
 use Rattle.vch_text.specs.Words.{is_word, front_of, end_of}
 use Rattle.vch_text.proofs.Splits.{front_whole}
-use Rattle.vch_text.proofs.Told.{Told, told_bind, told_test, told_map, word_true}
+use Rattle.vch_text.proofs.Told.{Told, told_bind, told_test, word_true}
 use Rattle.vch_text.proofs.WordsBack.{Follows, front_again, end_told, end_again}
 use Rattle.vch_text.proofs.Plain.{above, above_plain, plain_word, IsLow, low_append}
 use Rattle.vch_report.specs.declared.item.Item.{Item}
@@ -20,7 +18,7 @@ use Rattle.vch_report.specs.WellFormed.{IsNumber, IsEntry, IsTotal}
 use Rattle.vch_report.specs.Items.{item_text}
 use Rattle.vch_report.specs.Lines.{released_of, release_of, phase_of, title_of, last_of, total_of, counts_of, call_item, made_item, small_item, item_by, item_of}
 use Rattle.vch_report.proofs.LineWords.{said, num, no_more, a_space, low_said, low_word, low_num, BelowAt, below_at_told, below_at_again, OrdinalAt, ordinal_at_told, ordinal_at_again, after_told, after_again}
-use Rattle.vch_report.proofs.MadeLines.{Made_at, made_told, MadeLine, made_again}
+use Rattle.vch_report.proofs.MadeLines.{Made_at, made_told, made_again}
 use Rattle.vch_report.proofs.ReplyLines.{Call_at, call_told, call_rest, call_text, call_again, call_low}
 
 abbrev pub IsItem : Item → Type 0
@@ -90,9 +88,9 @@ total_told rest =
     (λ u n. record {
       good = (h.number, (hx.small, hy.small, hz.small));
       text =
-        ap (λ l. codes "task" ++ l)
-        (h.parts ∙ ap (num t.0) (ha ∙ ap (said (codes "ledger")) (hx.parts ∙ ap (num x.0) (hb ∙ ap (said (codes "held")) (hy.parts ∙ ap (num y.0) (hc ∙ ap (said (codes "out")) (hz.parts ∙ ap (num z.0) n)))))))
-        ∙ sym (total_line t.0 (record { ledger = x.0; held = y.0; out = z.0 }));
+          ap (λ l. codes "task" ++ l)
+          (h.parts ∙ ap (num t.0) (ha ∙ ap (said (codes "ledger")) (hx.parts ∙ ap (num x.0) (hb ∙ ap (said (codes "held")) (hy.parts ∙ ap (num y.0) (hc ∙ ap (said (codes "out")) (hz.parts ∙ ap (num z.0) n)))))))
+          ∙ sym (total_line t.0 (record { ledger = x.0; held = y.0; out = z.0 }));
     }))))))))
 
 counts_told : (rest : List ℕ) → Told (λ i. IsLine (codes "vouchers" ++ rest) i) (counts_of rest)
@@ -195,10 +193,16 @@ total_again t x h g =
     let b = num x.held (said (codes "out") c) in
     let a = num x.ledger (said (codes "held") b) in
     first_word (codes "task") (num t (said (codes "ledger") a)) refl (a_space _)
-    ∙ rw (ordinal_at_again t (said (codes "ledger") a) h (a_space _), after_again (codes "ledger") a refl (a_space _),
-    below_at_again (2 ^ 128) x.ledger (said (codes "held") b) (omega arith) g.0 (a_space _), after_again (codes "held") b refl (a_space _),
-    below_at_again (2 ^ 128) x.held (said (codes "out") c) (omega arith) g.1 (a_space _), after_again (codes "out") c refl (a_space _),
-    below_at_again (2 ^ 128) x.out [] (omega arith) g.2 no_more, end_again [] refl) refl
+    ∙ rw (
+      ordinal_at_again t (said (codes "ledger") a) h (a_space _),
+      after_again (codes "ledger") a refl (a_space _),
+      below_at_again (2 ^ 128) x.ledger (said (codes "held") b) (omega arith) g.0 (a_space _),
+      after_again (codes "held") b refl (a_space _),
+      below_at_again (2 ^ 128) x.held (said (codes "out") c) (omega arith) g.1 (a_space _),
+      after_again (codes "out") c refl (a_space _),
+      below_at_again (2 ^ 128) x.out [] (omega arith) g.2 no_more,
+      end_again [] refl,
+    ) refl
 
 pub item_again : (i : Item) → IsItem i → item_of (item_text i) ≡ Some i
 item_again items.Title h = title_again

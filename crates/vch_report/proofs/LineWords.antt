@@ -1,13 +1,9 @@
 -- The next word of a line of a report, both ways.
-use Rattle.std.proofs.Common.{◌≡◌, ℕ, zero, suc, ◌+◌, ◌-◌, ◌*◌, ◌/◌, ◌%◌, ◌^◌, ◌<◌, ◌≤◌, Bool, true, false, cond, not, eqb, leb, ltb, ◌&&◌, ◌||◌, List, [], ◌∷◌, ◌++◌, length, get_or, slice_index, Option, Some, None, Result, Ok, Err, is_some, unwrap_or, refl, sym, ap, subst, ◌∙◌, arith, codes, inl, inr, append-nil}
-use Rattle.std.proofs.lemmas.Grind.{common_steps}
-use Rattle.std.specs.List.{list_all}
-use Rattle.std.specs.Char.{is_ascii_uppercase}
+use Rattle.std.proofs.Common.{◌≡◌, ℕ, ◌^◌, ◌<◌, ◌≤◌, true, List, [], ◌∷◌, ◌++◌, Some, None, refl, ap, subst, ◌∙◌, arith, append-nil}
 use Rattle.std.specs.Fmt.{decimal}
-use Rattle.hex.specs.Hex.{IsBytes, encode_lower}
+use Rattle.hex.specs.Hex.{IsBytes}
 use Rattle.vch_model.specs.Text.{hex_of}
-use Rattle.vch_model.specs.Grammar.{IsWord, IsHex, Begins}
-use Rattle.vch_text.specs.Reading.{◌>>=◌}
+use Rattle.vch_model.specs.Grammar.{IsHex, Begins}
 use Rattle.vch_text.specs.Words.{is_word, word_at, end_of}
 use Rattle.vch_text.specs.Digits.{bytes_of}
 use Rattle.vch_text.proofs.Fronts.{front_sep, front_none}

@@ -1,6 +1,6 @@
 -- The loops over lines, entries, totals and tasks.
-use Rattle.std.proofs.Common.{◌≡◌, ℕ, zero, suc, ◌+◌, ◌<◌, ◌≤◌, Bool, true, false, cond, eqb, List, [], ◌∷◌, ◌++◌, length, length-append, map, take, slice_index, Option, Some, None, Result, Ok, Err, refl, sym, ap, subst, ◌∙◌, arith, append_assoc, append-nil, IfOk, codes}
-use Rattle.std.specs.List.{flat_map, slice_get, join_with_byte}
+use Rattle.std.proofs.Common.{◌≡◌, ℕ, zero, suc, ◌+◌, ◌<◌, ◌≤◌, Bool, true, false, cond, eqb, List, [], ◌∷◌, ◌++◌, length, length-append, take, slice_index, Option, Some, None, Result, Ok, Err, sym, ap, subst, ◌∙◌, arith, append_assoc, append-nil, IfOk, codes}
+use Rattle.std.specs.List.{flat_map, slice_get}
 use Rattle.std.specs.Fmt.{decimal}
 use Rattle.vch_model.specs.declared.entry.Entry.{Entry}
 use Rattle.vch_model.specs.declared.total.Total.{Total}
@@ -20,7 +20,7 @@ use Rattle.vch_report.specs.declared.fault.Stop.TheVariants as stops
 use Rattle.vch_report.specs.Lines.{item_of}
 use Rattle.vch_report.specs.Items.{text_of}
 use Rattle.vch_report.specs.Faults.{IsReport, IsRead, IsFault, IsRefused, IsFaultOf, IsSame}
-use Rattle.vch_report.specs.Reading.{Read, nothing, kept, whole, with_total, with_item, step_of, finish, read_lines, read_text, read_of, Gives, Reads, fault_at}
+use Rattle.vch_report.specs.Reading.{Read, kept, whole, with_item, step_of, finish, read_text, read_of, Gives, Reads, fault_at}
 use Rattle.vch_report.proofs.ChainWords.{chain_text}
 use Rattle.vch_report.proofs.Wholes.{goes_on, lines_more, lines_none, read_again, read_report, read_fault, fault_again, whole_same}
 

@@ -1,5 +1,5 @@
 -- What stands behind the word `made`, both ways.
-use Rattle.std.proofs.Common.{◌≡◌, ℕ, ◌+◌, ◌^◌, ◌<◌, ◌≤◌, Bool, true, false, cond, eqb, List, [], ◌∷◌, ◌++◌, length, Option, Some, None, refl, sym, ap, subst, ◌∙◌, arith, codes, append_assoc, append-nil}
+use Rattle.std.proofs.Common.{◌≡◌, ℕ, ◌+◌, ◌<◌, ◌≤◌, Bool, true, false, cond, eqb, List, [], ◌∷◌, ◌++◌, length, Option, Some, None, refl, sym, ap, subst, ◌∙◌, arith, codes, append-nil}
 use Rattle.std.proofs.lemmas.Grind.{common_steps}
 use Rattle.std.proofs.lemmas.Fmt.{decimal_digit}
 use Rattle.std.specs.Fmt.{decimal}
@@ -8,14 +8,12 @@ use Rattle.vch_base.specs.declared.value.Value.{Value}
 use Rattle.vch_base.specs.declared.value.Value.TheVariants as values
 use Rattle.vch_base.specs.declared.key.Key.{Key}
 use Rattle.vch_base.specs.declared.key.Key.TheVariants as keys
-use Rattle.vch_base.specs.Keys.{key_of}
 use Rattle.vch_base.specs.Values.{BelongsAt}
 use Rattle.vch_model.specs.declared.entry.Entry.{Entry}
 use Rattle.vch_model.specs.declared.entry.Entry.TheVariants as entries
 use Rattle.vch_model.specs.Text.{hex_of, value_text, entry_text}
-use Rattle.vch_text.specs.Reading.{◌>>=◌}
 use Rattle.vch_text.specs.Words.{is_word, word_at, end_of}
-use Rattle.vch_text.proofs.Told.{Told, told_bind, told_test, told_map, word_true, word_same}
+use Rattle.vch_text.proofs.Told.{Told, told_bind, told_test, word_true}
 use Rattle.vch_text.proofs.WordsBack.{word_told, end_told, end_again}
 use Rattle.vch_text.proofs.Plain.{above_plain, hex_plain, IsLow}
 use Rattle.vch_model.specs.Grammar.{Begins}
@@ -63,8 +61,8 @@ list_told rest more k =
     (λ ts c. record {
       good = ((c.is.some, c.is.few), c.is.numbers);
       text =
-        let line : r ≡ 32 ∷ chain_text ts = b.parts ∙ ap (said w.0) n ∙ ap (λ l. 32 ∷ l) (append-nil w.0 ∙ c.word) in
-        ap behind_made (k ∙ ap (said (codes "2")) (a ∙ ap (said (codes "list")) line)) ∙ sym (made_text 2 (values.Chain ts) (omega arith));
+          let line : r ≡ 32 ∷ chain_text ts = b.parts ∙ ap (said w.0) n ∙ ap (λ l. 32 ∷ l) (append-nil w.0 ∙ c.word) in
+          ap behind_made (k ∙ ap (said (codes "2")) (a ∙ ap (said (codes "list")) line)) ∙ sym (made_text 2 (values.Chain ts) (omega arith));
     }))))
 
 task_told : (rest more tail : List ℕ) → rest ≡ said (codes "3") more → more ≡ said (codes "task") tail → Told (λ e. Made_at rest e) (task_of tail)
@@ -124,14 +122,25 @@ list_again ts h =
 task_again : (t : ℕ) → IsNumber t → made_of (keyed 3 (values.Task t)) ≡ Some (entries.Made 3 (values.Task t))
 unfolding made_of bank_of task_of is_word
 task_again t h =
-    rw (task_text t, said_again (codes "3") (said (codes "task") (num t [])) (above_plain (codes "3") refl) (a_space _), said_again (codes "task") (num t []) (above_plain (codes "task") refl) (a_space _),
-    ordinal_at_again t [] h no_more, end_again [] refl) refl
+    rw (
+      task_text t,
+      said_again (codes "3") (said (codes "task") (num t [])) (above_plain (codes "3") refl) (a_space _),
+      said_again (codes "task") (num t []) (above_plain (codes "task") refl) (a_space _),
+      ordinal_at_again t [] h no_more,
+      end_again [] refl,
+    ) refl
 
 account_again : (t m : ℕ) → IsNumber t → IsNumber m → made_of (keyed 3 (values.Account t m)) ≡ Some (entries.Made 3 (values.Account t m))
 unfolding made_of bank_of account_of is_word
 account_again t m h g =
-    rw (account_text t m, said_again (codes "3") (said (codes "account") (num t (num m []))) (above_plain (codes "3") refl) (a_space _), said_again (codes "account") (num t (num m [])) (above_plain (codes "account") refl) (a_space _),
-    ordinal_at_again t (num m []) h (a_space _), ordinal_at_again m [] g no_more, end_again [] refl) refl
+    rw (
+      account_text t m,
+      said_again (codes "3") (said (codes "account") (num t (num m []))) (above_plain (codes "3") refl) (a_space _),
+      said_again (codes "account") (num t (num m [])) (above_plain (codes "account") refl) (a_space _),
+      ordinal_at_again t (num m []) h (a_space _),
+      ordinal_at_again m [] g no_more,
+      end_again [] refl,
+    ) refl
 
 -- ---- which key it is
 

@@ -1,5 +1,5 @@
 -- What stands behind the word `call`, both ways.
-use Rattle.std.proofs.Common.{◌≡◌, ℕ, suc, ◌+◌, ◌^◌, ◌<◌, ◌≤◌, ◌≢◌, ℤ, pos, negsuc, Bool, true, false, cond, ◌&&◌, leb, List, [], ◌∷◌, ◌++◌, length, slice_index, Option, Some, None, refl, sym, ap, subst, ◌∙◌, arith, codes, append_assoc, append-nil, ◌⊎◌, inl, inr}
+use Rattle.std.proofs.Common.{◌≡◌, ℕ, ◌^◌, ◌<◌, ℤ, pos, negsuc, Bool, true, false, ◌&&◌, leb, List, [], ◌∷◌, ◌++◌, length, slice_index, Some, refl, sym, ap, subst, ◌∙◌, arith, codes, append_assoc, append-nil, inl, inr}
 use Rattle.std.proofs.lemmas.Grind.{common_steps}
 use Rattle.std.specs.List.{AllByRecursion}
 use Rattle.std.specs.Fmt.{decimal, signed_decimal}
@@ -12,8 +12,7 @@ use Rattle.vch_model.specs.declared.entry.Entry.TheVariants as entries
 use Rattle.vch_model.specs.declared.entry.Reply.{Reply}
 use Rattle.vch_model.specs.declared.entry.Reply.TheVariants as replies
 use Rattle.vch_model.specs.Text.{hex_of, word_text, reply_text, entry_text}
-use Rattle.vch_model.specs.Grammar.{Begins, IsDecimal, IsNumeral, value_after}
-use Rattle.vch_text.specs.Reading.{◌>>=◌}
+use Rattle.vch_model.specs.Grammar.{Begins, IsDecimal, value_after}
 use Rattle.vch_text.specs.Words.{is_word, word_at, end_of}
 use Rattle.vch_text.proofs.Told.{Told, told_bind, told_test, told_map, both, word_true, word_same}
 use Rattle.vch_text.proofs.WordsBack.{Follows, word_told, end_told, end_again}
@@ -142,9 +141,28 @@ abbrev HasWord : ℤ → Type 0
 HasWord n = (w : List ℕ) × Code_word w n
 
 all_words : AllByRecursion HasWord refusals
-all_words =
-    ((codes "4", code_4), ((codes "5", code_5), ((codes "6", code_6), ((codes "8", code_8), ((codes "15", code_15), ((codes "20", code_20), ((codes "-307", code_array),
-    ((codes "268435459", code_task), ((codes "268435460", code_full), ((codes "268435461", code_voucher), ((codes "268451843", code_empty), tt)))))))))))
+all_words = (
+  (codes "4", code_4),
+  (
+    (codes "5", code_5),
+    (
+      (codes "6", code_6),
+      (
+        (codes "8", code_8),
+        (
+          (codes "15", code_15),
+          (
+            (codes "20", code_20),
+            (
+              (codes "-307", code_array),
+              ((codes "268435459", code_task), ((codes "268435460", code_full), ((codes "268435461", code_voucher), ((codes "268451843", code_empty), tt)))),
+            ),
+          ),
+        ),
+      ),
+    ),
+  ),
+)
 
 word_among : (cs : List ℤ) → AllByRecursion HasWord cs → (n : ℤ) → IsOneOf cs n → HasWord n
 word_among [] h n i = absurd i
@@ -436,5 +454,10 @@ call_low t n v r h =
 pub call_again : (t n : ℕ) (v : Word) (r : Reply) → IsEntry (entries.Call t n v r) → call_of (call_rest t n v r) ≡ Some (entries.Call t n v r)
 unfolding call_of called_of
 call_again t n v r h =
-    rw (ordinal_at_again t (num n (said (word_text v) (32 ∷ reply_text r))) h.0 (a_space _), ordinal_at_again n (said (word_text v) (32 ∷ reply_text r)) h.1 (a_space _),
-    said_again (word_text v) (32 ∷ reply_text r) (above_plain (word_text v) (verb_plain v)) (a_space _), verb_again v, reply_again v r h.2) refl
+    rw (
+      ordinal_at_again t (num n (said (word_text v) (32 ∷ reply_text r))) h.0 (a_space _),
+      ordinal_at_again n (said (word_text v) (32 ∷ reply_text r)) h.1 (a_space _),
+      said_again (word_text v) (32 ∷ reply_text r) (above_plain (word_text v) (verb_plain v)) (a_space _),
+      verb_again v,
+      reply_again v r h.2,
+    ) refl

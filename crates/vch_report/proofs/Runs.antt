@@ -8,7 +8,7 @@ use Rattle.vch_report.specs.declared.item.Item.{Item}
 use Rattle.vch_report.specs.declared.item.Item.TheVariants as items
 use Rattle.vch_report.specs.declared.draft.Place.{Place}
 use Rattle.vch_report.specs.declared.draft.Place.TheVariants as places
-use Rattle.vch_report.specs.WellFormed.{IsNumber, IsEntry, IsTotal}
+use Rattle.vch_report.specs.WellFormed.{IsEntry, IsTotal}
 use Rattle.vch_report.specs.Items.{item_text}
 use Rattle.vch_report.specs.Lines.{item_of}
 use Rattle.vch_report.specs.Reading.{Read, nothing, with_item, with_total, step_of}
@@ -97,9 +97,9 @@ next_total d t x n g h = record {
     few = omega (arith, length-append d.totals (x ∷ []), h.0.1);
   };
   items =
-    let k : 1 + length d.totals ≡ t = omega arith in
-    let more : task_items 1 (d.totals ++ x ∷ []) ≡ task_items 1 d.totals ++ items.Task t x ∷ [] = tasks_push 1 d.totals x ∙ ap (λ m. task_items 1 d.totals ++ items.Task m x ∷ []) k in
-    ap (λ l. items.Title ∷ (step_items d.entries ++ l)) more ∙ ap (λ l. items.Title ∷ l) (sym (append_assoc (step_items d.entries) (task_items 1 d.totals) (items.Task t x ∷ [])));
+      let k : 1 + length d.totals ≡ t = omega arith in
+      let more : task_items 1 (d.totals ++ x ∷ []) ≡ task_items 1 d.totals ++ items.Task t x ∷ [] = tasks_push 1 d.totals x ∙ ap (λ m. task_items 1 d.totals ++ items.Task m x ∷ []) k in
+      ap (λ l. items.Title ∷ (step_items d.entries ++ l)) more ∙ ap (λ l. items.Title ∷ l) (sym (append_assoc (step_items d.entries) (task_items 1 d.totals) (items.Task t x ∷ [])));
 }
 
 total_told : (P : Read → Type 0) (b : Bool) (d e : Read) → cond b (found d) None ≡ Some e → (b ≡ true → P d) → P e
@@ -121,12 +121,16 @@ with_told places.Totals d (items.Task t x) e at g h s =
     total_told (λ y. Gone places.Totals d (items.Task t x) y) (eqb t (length d.totals + 1)) (record d { place = places.Totals; totals = d.totals ++ x ∷ [] }) e s (λ n. next_total d t x (test_true t (length d.totals + 1) n) g h)
 with_told places.Totals d (items.Counts v w) e at g h s =
     found_is (λ x. Gone places.Totals d (items.Counts v w) x) (record d { place = places.End; vouchers = v; values = w }) e s
-    (record { good = record { listed = g; vouchers = h.0; values = h.1 };
-              items = ap (λ l. items.Title ∷ l) (sym (append_assoc (step_items d.entries) (task_items 1 d.totals) (items.Counts v w ∷ []))) })
+    (record {
+      good = record { listed = g; vouchers = h.0; values = h.1 };
+      items = ap (λ l. items.Title ∷ l) (sym (append_assoc (step_items d.entries) (task_items 1 d.totals) (items.Counts v w ∷ [])));
+    })
 with_told places.End d items.End e at g h s =
     found_is (λ x. Gone places.End d items.End x) (record d { place = places.Done }) e s
-    (record { good = record { listed = g.listed; vouchers = g.vouchers; values = g.values };
-              items = ap (λ l. items.Title ∷ l) (ap (λ l. step_items d.entries ++ l) (sym (append_assoc (task_items 1 d.totals) (items.Counts d.vouchers d.values ∷ []) (items.End ∷ []))) ∙ sym (append_assoc (step_items d.entries) (task_items 1 d.totals ++ items.Counts d.vouchers d.values ∷ []) (items.End ∷ []))) })
+    (record {
+      good = record { listed = g.listed; vouchers = g.vouchers; values = g.values };
+      items = ap (λ l. items.Title ∷ l) (ap (λ l. step_items d.entries ++ l) (sym (append_assoc (task_items 1 d.totals) (items.Counts d.vouchers d.values ∷ []) (items.End ∷ []))) ∙ sym (append_assoc (step_items d.entries) (task_items 1 d.totals ++ items.Counts d.vouchers d.values ∷ []) (items.End ∷ [])));
+    })
 with_told p d i e at g h s = absurd cc
 
 -- ---- lines
@@ -248,9 +252,11 @@ all_tasks t [] some few h = tt
 all_tasks t (x ∷ ts) some few h = (((some, omega arith), h.0), all_tasks (t + 1) ts (omega arith) (omega arith) h.1)
 
 pub all_items : (es : List Entry) (ts : List Total) (v w : ℕ) → Counted es ts v w → AllByRecursion IsItem (items_of es ts v w)
-all_items es ts v w g =
-    (tt, all_append (step_items es) (task_items 1 ts ++ items.Counts v w ∷ items.End ∷ []) (all_steps es g.listed.entries)
-      (all_append (task_items 1 ts) (items.Counts v w ∷ items.End ∷ []) (all_tasks 1 ts (omega arith) (omega (arith, g.listed.few)) g.listed.totals) ((g.vouchers, g.values), (tt, tt))))
+all_items es ts v w g = (
+  tt,
+  all_append (step_items es) (task_items 1 ts ++ items.Counts v w ∷ items.End ∷ []) (all_steps es g.listed.entries)
+      (all_append (task_items 1 ts) (items.Counts v w ∷ items.End ∷ []) (all_tasks 1 ts (omega arith) (omega (arith, g.listed.few)) g.listed.totals) ((g.vouchers, g.values), (tt, tt))),
+)
 
 -- the lines of a good report lead to it
 pub go_whole : (es : List Entry) (ts : List Total) (v w : ℕ) → Counted es ts v w → go nothing (item_lines (items_of es ts v w)) ≡ Some (done es ts v w)
@@ -280,16 +286,35 @@ ended_at places.Title d at g =
 ended_at places.Entries d at g =
     record { entries = d.entries; totals = none ∷ []; vouchers = 0; values = 0; good = one_task d.entries g.0; more = items.Task 1 none ∷ items.Counts 0 0 ∷ items.End ∷ []; items = rw at refl }
 ended_at places.Totals d at g =
-    record { entries = d.entries; totals = d.totals; vouchers = 0; values = 0; good = record { listed = g; vouchers = omega arith; values = omega arith };
-             more = items.Counts 0 0 ∷ items.End ∷ [];
-             items = rw at (ap (λ l. items.Title ∷ l) (sym (append_assoc (step_items d.entries) (task_items 1 d.totals) (items.Counts 0 0 ∷ items.End ∷ [])))) }
+    record {
+      entries = d.entries;
+      totals = d.totals;
+      vouchers = 0;
+      values = 0;
+      good = record { listed = g; vouchers = omega arith; values = omega arith };
+      more = items.Counts 0 0 ∷ items.End ∷ [];
+      items = rw at (ap (λ l. items.Title ∷ l) (sym (append_assoc (step_items d.entries) (task_items 1 d.totals) (items.Counts 0 0 ∷ items.End ∷ []))));
+    }
 ended_at places.End d at g =
-    record { entries = d.entries; totals = d.totals; vouchers = d.vouchers; values = d.values; good = record { listed = g.listed; vouchers = g.vouchers; values = g.values };
-             more = items.End ∷ [];
-             items = rw at (ap (λ l. items.Title ∷ l) (ap (λ l. step_items d.entries ++ l) (sym (append_assoc (task_items 1 d.totals) (items.Counts d.vouchers d.values ∷ []) (items.End ∷ []))) ∙ sym (append_assoc (step_items d.entries) (task_items 1 d.totals ++ items.Counts d.vouchers d.values ∷ []) (items.End ∷ [])))) }
+    record {
+      entries = d.entries;
+      totals = d.totals;
+      vouchers = d.vouchers;
+      values = d.values;
+      good = record { listed = g.listed; vouchers = g.vouchers; values = g.values };
+      more = items.End ∷ [];
+      items = rw at (ap (λ l. items.Title ∷ l) (ap (λ l. step_items d.entries ++ l) (sym (append_assoc (task_items 1 d.totals) (items.Counts d.vouchers d.values ∷ []) (items.End ∷ []))) ∙ sym (append_assoc (step_items d.entries) (task_items 1 d.totals ++ items.Counts d.vouchers d.values ∷ []) (items.End ∷ []))));
+    }
 ended_at places.Done d at g =
-    record { entries = d.entries; totals = d.totals; vouchers = d.vouchers; values = d.values; good = record { listed = g.listed; vouchers = g.vouchers; values = g.values };
-             more = []; items = rw at (sym (append-nil (items_of d.entries d.totals d.vouchers d.values))) }
+    record {
+      entries = d.entries;
+      totals = d.totals;
+      vouchers = d.vouchers;
+      values = d.values;
+      good = record { listed = g.listed; vouchers = g.vouchers; values = g.values };
+      more = [];
+      items = rw at (sym (append-nil (items_of d.entries d.totals d.vouchers d.values)));
+    }
 
 pub ended : (d : Read) → IsGood d → Ended d
 ended d g = ended_at d.place d refl g

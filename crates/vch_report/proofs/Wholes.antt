@@ -1,21 +1,15 @@
 -- What is read of a text, and what a text can be.
-use Rattle.std.proofs.Common.{◌≡◌, ◌⊎◌, ℕ, suc, ◌+◌, ◌<◌, ◌≤◌, Bool, true, false, cond, ◌&&◌, List, [], ◌∷◌, ◌++◌, length, length-append, Option, Some, None, Result, Ok, Err, refl, sym, ap, subst, ◌∙◌, arith, append_assoc, append-nil, inl, inr}
+use Rattle.std.proofs.Common.{◌≡◌, ◌⊎◌, ℕ, ◌+◌, Bool, true, false, cond, ◌&&◌, List, [], ◌∷◌, ◌++◌, length, length-append, Option, Some, None, Result, Ok, Err, refl, sym, ap, subst, ◌∙◌, arith, append_assoc, append-nil, inl, inr}
 use Rattle.std.specs.List.{AllByRecursion}
-use Rattle.vch_model.specs.TextLines.{split_of, with_line_before}
+use Rattle.vch_model.specs.TextLines.{split_of}
 use Rattle.vch_text.specs.Reading.{◌>>=◌}
 use Rattle.vch_report.specs.declared.report.Report.{Report}
 use Rattle.vch_report.specs.declared.draft.Place.{Place}
 use Rattle.vch_report.specs.declared.draft.Place.TheVariants as places
-use Rattle.vch_report.specs.declared.fault.ReportFault.{ReportFault}
-use Rattle.vch_report.specs.declared.fault.ReportFault.TheVariants as faults
-use Rattle.vch_report.specs.declared.fault.Stop.{Stop}
-use Rattle.vch_report.specs.declared.fault.Stop.TheVariants as stops
-use Rattle.vch_report.specs.WellFormed.{IsWellFormed}
-use Rattle.vch_report.specs.Items.{text_of}
-use Rattle.vch_report.specs.Faults.{IsReport, IsSame, lines_text, IsBegun, IsStuck, IsFault, IsRead, IsRefused, IsFaultOf}
-use Rattle.vch_report.specs.Reading.{Read, nothing, step_of, whole, is_done, is_empty, finish, read_lines, read_text, read_of, Reads, fault_at, Gives}
+use Rattle.vch_report.specs.Faults.{IsReport, IsSame, lines_text, IsBegun, IsStuck, IsFault}
+use Rattle.vch_report.specs.Reading.{Read, nothing, step_of, whole, is_done, is_empty, finish, read_lines, read_text, read_of}
 use Rattle.vch_report.proofs.Runs.{go, go_append}
-use Rattle.vch_report.proofs.Begun.{IsOne, onto, cut, split_lines, split_ones, lines_of, report_split, report_goes, whole_report, begun, begun_shorter}
+use Rattle.vch_report.proofs.Begun.{IsOne, split_lines, split_ones, lines_of, report_split, report_goes, whole_report, begun, begun_shorter}
 
 -- ---- one line after the other
 

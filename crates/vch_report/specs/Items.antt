@@ -1,8 +1,6 @@
 -- The lines of a report.
-use Rattle.std.specs.Prelude.{ℕ, ◌+◌, List, [], ◌∷◌, ◌++◌, codes}
-use Rattle.vch_model.specs.declared.entry.Entry.{Entry}
-use Rattle.vch_model.specs.declared.total.Total.{Total}
-use Rattle.vch_model.specs.Text.{newline, entry_text, total_text, counts_text, report_text}
+use Rattle.std.specs.Prelude.{ℕ, List, codes}
+use Rattle.vch_model.specs.Text.{entry_text, total_text, counts_text, report_text}
 use Rattle.vch_report.specs.declared.report.Report.{Report}
 use Rattle.vch_report.specs.declared.item.Item.{Item}
 use Rattle.vch_report.specs.declared.item.Item.TheVariants as items

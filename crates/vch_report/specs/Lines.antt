@@ -2,7 +2,6 @@
 use Rattle.std.specs.Prelude.{ℕ, ◌^◌, if◌then◌else◌, List, Option, Some, None, codes}
 use Rattle.vch_model.specs.declared.entry.Entry.{Entry}
 use Rattle.vch_model.specs.declared.entry.Entry.TheVariants as entries
-use Rattle.vch_model.specs.declared.total.Total.{Total}
 use Rattle.vch_text.specs.Reading.{◌>>=◌}
 use Rattle.vch_text.specs.Words.{is_word, front_of, end_of}
 use Rattle.vch_report.specs.declared.item.Item.{Item}

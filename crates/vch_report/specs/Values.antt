@@ -1,7 +1,6 @@
 -- What stands behind the word `made`: a key and a value of it.
 use Rattle.std.specs.Prelude.{ℕ, nat_le, ◌==◌, if◌then◌else◌, List, [], ◌∷◌, length, Option, Some, None, codes}
 use Rattle.std.specs.List.{slice_split}
-use Rattle.vch_base.specs.declared.value.Value.{Value}
 use Rattle.vch_base.specs.declared.value.Value.TheVariants as values
 use Rattle.vch_model.specs.declared.entry.Entry.{Entry}
 use Rattle.vch_model.specs.declared.entry.Entry.TheVariants as entries
@@ -57,13 +56,13 @@ unfoldable pub bank_of : List ℕ → Option Entry
 bank_of rest = do
   w ← word_at rest
   if is_word w.0 (codes "task") then task_of w.1
-    else if is_word w.0 (codes "account") then account_of w.1
-    else None
+      else if is_word w.0 (codes "account") then account_of w.1
+      else None
 
 unfoldable pub made_of : List ℕ → Option Entry
 made_of rest = do
   w ← word_at rest
   if is_word w.0 (codes "7") then user_of w.1
-    else if is_word w.0 (codes "2") then list_of w.1
-    else if is_word w.0 (codes "3") then bank_of w.1
-    else None
+      else if is_word w.0 (codes "2") then list_of w.1
+      else if is_word w.0 (codes "3") then bank_of w.1
+      else None

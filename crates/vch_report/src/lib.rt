@@ -21,3 +21,6 @@ pub use reader::read;
 pub use report::Report;
 pub use vch_model::{Total, TotalList};
 pub use writer::write;
+
+#[cfg(test)]
+mod tests;

@@ -1,8 +1,36 @@
 //! The trusted edge: a source over a reader and a sink over a writer. They count their faults and tell nothing of content.
-ghost use Rattle.std.specs.Prelude.{◌≡◌, None};
+ghost use Rattle.std.specs.Prelude.{◌≡◌, ◌≤◌, None, IfSome, length};
 
 use std::io::{ErrorKind, Read, Write};
 use vch_base::{Failed, Sink, Source};
+
+/// Reads once, or not at all where the reader fails. A read that the system interrupted is tried again.
+fn read_some<R: Read>(inner: &mut R, buffer: &mut [u8]) -> Option<usize>
+    ensures { IfSome result (λ count. count ≤ length buffer.new) }
+{
+    for _ in 0..u64::MAX {
+        match inner.read(buffer) {
+            Ok(count) => return Some(count),
+            Err(error) if error.kind() == ErrorKind::Interrupted => {}
+            Err(_) => return None,
+        }
+    }
+    None
+}
+
+/// Writes once, or not at all where the writer fails. A write that the system interrupted is tried again.
+fn write_some<W: Write>(inner: &mut W, piece: &[u8]) -> Option<usize>
+    ensures { IfSome result (λ count. count ≤ length piece.now) }
+{
+    for _ in 0..u64::MAX {
+        match inner.write(piece) {
+            Ok(count) => return Some(count),
+            Err(error) if error.kind() == ErrorKind::Interrupted => {}
+            Err(_) => return None,
+        }
+    }
+    None
+}
 
 /// A source over any reader.
 #[derive(Drop)]
@@ -23,17 +51,14 @@ impl<R: Read> Source for Input<R> {
 
     ghost faults = { λ s. s.faults };
 
-    /// Reads once. A read that the system interrupted is tried again, and is no fault.
     fn read(&mut self, buffer: &mut [u8]) -> Result<usize, Failed> {
-        for _ in 0..u64::MAX {
-            match self.inner.read(buffer) {
-                Ok(count) => return Ok(count),
-                Err(error) if error.kind() == ErrorKind::Interrupted => {}
-                Err(_) => break,
+        match read_some(&mut self.inner, buffer) {
+            Some(count) => Ok(count),
+            None => {
+                self.faults = self.faults.saturating_add(1);
+                Err(Failed)
             }
         }
-        self.faults = self.faults.saturating_add(1);
-        Err(Failed)
     }
 }
 
@@ -56,22 +81,19 @@ impl<W: Write> Sink for Output<W> {
 
     ghost faults = { λ s. s.faults };
 
-    /// Writes once. A write that takes nothing of a piece that is not empty is a fault.
     fn write(&mut self, piece: &[u8]) -> Result<usize, Failed> {
-        for _ in 0..u64::MAX {
-            match self.inner.write(piece) {
-                Ok(0) => {
-                    if !piece.is_empty() {
-                        self.faults = self.faults.saturating_add(1);
-                    }
-                    return Ok(0);
+        match write_some(&mut self.inner, piece) {
+            Some(0) => {
+                if !piece.is_empty() {
+                    self.faults = self.faults.saturating_add(1);
                 }
-                Ok(count) => return Ok(count),
-                Err(error) if error.kind() == ErrorKind::Interrupted => {}
-                Err(_) => break,
+                Ok(0)
+            }
+            Some(count) => Ok(count),
+            None => {
+                self.faults = self.faults.saturating_add(1);
+                Err(Failed)
             }
         }
-        self.faults = self.faults.saturating_add(1);
-        Err(Failed)
     }
 }

@@ -1,4 +1,4 @@
-use Rattle.std.proofs.Common.{◌∙◌, sym, arith, length, length-append, [], ◌∷◌, ◌++◌}
+use Rattle.std.proofs.Common.{◌∙◌, sym, arith, length-append, [], ◌∷◌}
 use Rattle.vch_report.proofs.Chains.{first_none, first_some, next_none, next_some, next_many, no_more, left_shorter}
 use Rattle.vch_report.proofs.values.chain.Goals as goal
 
@@ -32,9 +32,10 @@ loop-rest-preserved c =
     let f = c.front-in-len1-up in
     let few = c.loop-rest.invariant.1 in
     let n = length-append c.loop-rest.list (c.in_ok-task.task ∷ []) in
-    rw c.with-list.ensures
-    (next_some c.args.word.now c.loop-rest.list c.loop-rest.rest.now f.result.0.now f.result.1.now c.loop-rest.invariant.0 c.in-len1-up.len_at_least f.ensures c.in_ok-task.task c.in_ok-task.ensures,
-      omega (arith, c.len.ensures.len))
+    rw c.with-list.ensures (
+      next_some c.args.word.now c.loop-rest.list c.loop-rest.rest.now f.result.0.now f.result.1.now c.loop-rest.invariant.0 c.in-len1-up.len_at_least f.ensures c.in_ok-task.task c.in_ok-task.ensures,
+      omega (arith, c.len.ensures.len),
+    )
 
 pub returns : goal.returns
 returns c = no_more c.args.word.now c.loop-rest.list c.loop-rest.rest.now c.loop-rest.invariant.0 (omega arith) c.loop-rest.invariant.1

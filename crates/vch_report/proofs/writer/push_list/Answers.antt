@@ -1,4 +1,4 @@
-use Rattle.std.proofs.Common.{◌≡◌, ◌+◌, ◌<◌, ◌≤◌, ◌∙◌, ap, arith, length, take, codes, List, ℕ}
+use Rattle.std.proofs.Common.{◌+◌, ◌<◌, ◌∙◌, ap, arith, length, take, codes}
 use Rattle.std.specs.Fmt.{decimal}
 use Rattle.vch_report.proofs.ChainWords.{chain_text}
 use Rattle.vch_report.proofs.Loops.{pushed, pushed_next, task_first, task_next}
