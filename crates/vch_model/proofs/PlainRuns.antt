@@ -1,5 +1,5 @@
 -- The run of the code over a list of lines.
-use Rattle.std.proofs.Common.{◌≡◌, ◌+◌, ◌*◌, ◌≤◌, ℕ, zero, suc, List, [], ◌∷◌, ◌++◌, length, take, refl, sym, ap, arith, subst, Bool, true, false, nat_lt, Option, Some, None, cond}
+use Rattle.std.proofs.Common.{drop, ◌≡◌, ◌+◌, ◌*◌, ◌≤◌, ℕ, zero, suc, List, [], ◌∷◌, ◌++◌, length, take, refl, sym, ap, arith, subst, Bool, true, false, nat_lt, Option, Some, None, cond}
 use Rattle.std.proofs.lemmas.List.{length-reverse}
 use Rattle.std.specs.List.{slice_get}
 use Rattle.vch_recipe.specs.Recipes.{first_of}
@@ -61,7 +61,7 @@ served_small p calls.Live b s = absurd b
 
 pub serve_all_small : (lines : List Line) (p : Plain) → AllBuilt lines → SmallPlain p → SmallPlain (serve_all p lines)
 serve_all_small [] p b s = s
-serve_all_small (line ∷ lines) p b s = serve_all_small lines (served p line.call) b.2 (served_small p line.call b.1 s)
+serve_all_small (line ∷ lines) p b s = serve_all_small lines (served p line.call) b.1 (served_small p line.call b.0.1 s)
 
 pub begun_small : SmallPlain begun
 begun_small = record { next = omega arith; entries = omega arith; refs = λ i. tt }
@@ -75,15 +75,20 @@ take_next [] i line e = cc
 take_next (x ∷ lines) zero line e = let same : x ≡ line = cc in ap (λ (y : Line). y ∷ []) same
 take_next (x ∷ lines) (suc i) line e = let n : suc i + 1 ≡ suc (i + 1) = omega arith in rw n (ap (λ l. x ∷ l) (take_next lines i line e))
 
+pub drop_next : (lines : List Line) (i : ℕ) (line : Line) → slice_get lines i ≡ Some line → drop i lines ≡ line ∷ drop (i + 1) lines
+drop_next [] i line e = cc
+drop_next (x ∷ lines) zero line e = let same : x ≡ line = cc in ap (λ (y : Line). y ∷ lines) same
+drop_next (x ∷ lines) (suc i) line e = let n : suc i + 1 ≡ suc (i + 1) = omega arith in rw n (drop_next lines i line e)
+
 pub built_at : (lines : List Line) (i : ℕ) (line : Line) → AllBuilt lines → slice_get lines i ≡ Some line → IsBuiltCall line.call
 built_at [] i line b e = cc
-built_at (x ∷ lines) zero line b e = let same : x ≡ line = cc in subst (λ (y : Line). IsBuiltCall y.call) same b.1
-built_at (x ∷ lines) (suc i) line b e = built_at lines i line b.2 e
+built_at (x ∷ lines) zero line b e = let same : x ≡ line = cc in subst (λ (y : Line). IsBuiltCall y.call) same b.0.1
+built_at (x ∷ lines) (suc i) line b e = built_at lines i line b.1 e
 
 pub built_take : (lines : List Line) (i : ℕ) → AllBuilt lines → AllBuilt (take i lines)
 built_take lines zero b = tt
 built_take [] (suc i) b = tt
-built_take (x ∷ lines) (suc i) b = (b.0, b.1, built_take lines i b.2)
+built_take (x ∷ lines) (suc i) b = (b.0, built_take lines i b.1)
 
 -- what the run needs where its state is the plain run's
 pub small_run : (run : Run) (lines : List Line) (i : ℕ) → AllBuilt lines → state_of run ≡ serve_all begun (take i lines) → Small run run.calls

@@ -18,8 +18,10 @@ use Rattle.vch_model.specs.Eval.{create}
 use Rattle.vch_model.specs.After.{store_of}
 use Rattle.vch_model.specs.Lines.{calls_in, phases_in, line_at}
 use Rattle.vch_model.specs.Legal.{LegalPast}
+use Rattle.vch_model.specs.Totals.{ledger}
 use Rattle.vch_model.specs.declared.rows.Row.{Row}
 use Rattle.vch_model.specs.Plain.{Plain, name_with, row_of, more_at, less_at, user_voucher, named_of, alive_of, view, put, let_go_at, served, content_of}
+use Rattle.vch_model.proofs.PlainTotals.{no_holder}
 use Rattle.vch_model.proofs.RowLaws.{by_cases, equal_lists-same, names_same, more_names, more_alive, any_alive, any_named, vouchers_same, voucher_in, less_same, less_names, less_alive, Good, Good-later, Good-more, Good-less, Good-push, less_without, less_found, less_unheld}
 
 pub record Stands (sc : Scenario) (p : Plain) : Type 0 where
@@ -28,6 +30,12 @@ pub record Stands (sc : Scenario) (p : Plain) : Type 0 where
   pub calls : calls_in p.past 1 ≡ p.calls
   pub phases : phases_in p.past ≡ 0
   pub rows : Good p.next (length p.past) p.rows
+  pub charges : ledger sc p.past 1 ≡ 0
+
+-- a drop that is done charges nothing
+drop_ledger : (sc : Scenario) (p : Plain) (name : ℕ) → line_at sc 1 (p.calls + 1) ≡ Some (1, record { task = 1; call = calls.GiveUp name }) → Stands sc p
+    → ledger sc (entries.Call 1 (p.calls + 1) words.GiveUp replies.Done ∷ p.past) 1 ≡ 0
+drop_ledger sc p name line st = rw line st.charges
 
 any_last : {X : Type 0} (t : X → Bool) (xs : List X) (x : X) → t x ≡ true → list_any t (xs ++ x ∷ []) ≡ true
 any_last t [] x e = rw e refl
@@ -56,6 +64,7 @@ put_new sc p bytes c line made none st =
       phases = st.phases;
       rows = Good-later (p.next + 1) (length p.past + 1) (p.next + 1) (suc (suc (length p.past))) (p.rows ++ row ∷ []) (omega arith) (omega arith)
           (Good-push p.next (length p.past) p.rows row refl refl none st.rows);
+      charges = st.charges;
     }
 
 pub put_old : (sc : Scenario) (p : Plain) (bytes c : List ℕ) (name : ℕ)
@@ -73,6 +82,7 @@ put_old sc p bytes c name line made some st =
       calls = ap (λ n. n + 1) st.calls;
       phases = st.phases;
       rows = Good-later p.next (length p.past) p.next (suc (length p.past)) (more_at p.rows name) (omega arith) (omega arith) (Good-more p.next (length p.past) p.rows name st.rows);
+      charges = st.charges;
     }
 
 pub drop_none : (sc : Scenario) (p : Plain) (name : ℕ)
@@ -87,6 +97,7 @@ drop_none sc p name line none st =
       calls = ap (λ n. n + 1) st.calls;
       phases = st.phases;
       rows = Good-later p.next (length p.past) p.next (suc (length p.past)) p.rows (omega arith) (omega arith) st.rows;
+      charges = st.charges;
     }
 
 drop_many : (sc : Scenario) (p : Plain) (name : ℕ) (r : Row)
@@ -102,6 +113,7 @@ drop_many sc p name r line some many st =
       calls = ap (λ n. n + 1) st.calls;
       phases = st.phases;
       rows = Good-later p.next (length p.past) p.next (suc (length p.past)) (less_at p.rows name) (omega arith) (omega arith) (Good-less p.next (length p.past) p.rows name st.rows);
+      charges = drop_ledger sc p name line st;
     }
 
 drop_last : (sc : Scenario) (p : Plain) (name : ℕ) (r : Row)
@@ -119,6 +131,7 @@ drop_last sc p name r line some few st =
       calls = ap (λ n. n + 1) st.calls;
       phases = st.phases;
       rows = Good-later p.next (length p.past) p.next (suc (suc (length p.past))) (less_at p.rows name) (omega arith) (omega arith) (Good-less p.next (length p.past) p.rows name st.rows);
+      charges = rw (st.store, line, no_holder p.rows r.made 1) st.charges;
     }
 
 pub drop_some : (sc : Scenario) (p : Plain) (name : ℕ) (r : Row)

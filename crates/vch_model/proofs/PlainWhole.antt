@@ -1,5 +1,5 @@
 -- The history of the plain run is whole.
-use Rattle.std.proofs.Common.{◌≡◌, ◌+◌, ◌-◌, ◌<◌, ℕ, suc, List, [], ◌∷◌, length, map, reverse, refl, sym, ap, ◌∙◌, arith, true, ◌==◌, nat_le, Option, Some, None, append-nil, zero-add}
+use Rattle.std.proofs.Common.{◌≡◌, ◌+◌, ◌-◌, ◌<◌, ℕ, suc, List, [], ◌∷◌, ◌++◌, length, map, reverse, refl, sym, ap, ◌∙◌, arith, true, ◌==◌, nat_le, Option, Some, None, cond, append-nil, zero-add}
 use Rattle.std.proofs.lemmas.Grind.{common_steps}
 use Rattle.std.proofs.lemmas.List.{reverse-reverse}
 use Rattle.std.proofs.lemmas.Option.{slice_get-map}
@@ -14,8 +14,15 @@ use Rattle.vch_model.specs.declared.lists.Scenario.{Scenario}
 use Rattle.vch_model.specs.Lines.{lines_of, line_at, calls_in}
 use Rattle.vch_model.specs.Legal.{LegalPast, Whole, Ended, all_held}
 use Rattle.vch_model.specs.declared.rows.Row.{Row}
-use Rattle.vch_model.specs.Plain.{Plain, view, put, let_go_at, name_with, row_of, content_of, begun, served, serve_all, past_of}
+use Rattle.vch_model.specs.Plain.{Adds, alive_of, Plain, view, put, let_go_at, name_with, row_of, content_of, begun, served, serve_all, past_of}
 use Rattle.vch_model.proofs.RowLaws.{held_all, any_named}
+use Rattle.std.specs.List.{sum_by}
+use Rattle.vch_model.specs.Store.{Store, Alive}
+use Rattle.vch_model.specs.Totals.{held, out, last_is, first_is, tasks_of, weight}
+use Rattle.vch_model.specs.Replies.{different}
+use Rattle.vch_model.specs.After.{store_of}
+use Rattle.vch_model.specs.Text.{totals_of, vouchers_in, values_in}
+use Rattle.vch_model.proofs.PlainTotals.{no_weight, vouchers_at, different_rows}
 use Rattle.vch_model.proofs.PlainSteps.{Stands, served_stands}
 
 abbrev pub in_first : Line → ℕ × Line
@@ -24,8 +31,8 @@ in_first line = (1, line)
 filter_one : (lines : List Line) → AllBuilt lines → filter (λ (l : ℕ × Line). l.1.task == 1) (map in_first lines) ≡ map in_first lines
 filter_one [] b = refl
 filter_one (line ∷ lines) b =
-    let own : (line.task == 1) ≡ true = let t : line.task ≡ 1 = b.0 in grind (arith, common_steps) in
-    rw (own, filter_one lines b.2) refl
+    let own : (line.task == 1) ≡ true = let t : line.task ≡ 1 = b.0.0 in grind (arith, common_steps) in
+    rw (own, filter_one lines b.1) refl
 
 filter_early : (lines : List Line) → filter (λ (l : ℕ × Line). nat_le l.0 1) (map in_first lines) ≡ map in_first lines
 filter_early [] = refl
@@ -61,18 +68,18 @@ pub serve_all_stands : (sc : Scenario) (lines : List Line) (p : Plain) → AllBu
 serve_all_stands sc [] p b at st = st
 serve_all_stands sc (line ∷ lines) p b at st =
     let n : p.calls + 1 ≡ p.calls + 1 + 0 = omega arith in
-    let same : line ≡ record { task = 1; call = line.call } = λ i. record { task = b.0 i; call = line.call } in
+    let same : line ≡ record { task = 1; call = line.call } = λ i. record { task = b.0.0 i; call = line.call } in
     let first : line_at sc 1 (p.calls + 1) ≡ Some (1, record { task = 1; call = line.call }) = ap (λ k. line_at sc 1 k) n ∙ at 0 ∙ ap (λ (l : Line). Some (in_first l)) same in
-    let more : (served p line.call).calls ≡ p.calls + 1 = served_calls p line.call b.1 in
-    serve_all_stands sc lines (served p line.call) b.2
+    let more : (served p line.call).calls ≡ p.calls + 1 = served_calls p line.call b.0.1 in
+    serve_all_stands sc lines (served p line.call) b.1
     (λ i. let k : (served p line.call).calls + 1 + i ≡ p.calls + 1 + suc i = omega arith in ap (λ m. line_at sc 1 m) k ∙ at (suc i))
-    (served_stands sc p line.call b.1 first st)
+    (served_stands sc p line.call b.0.1 first st)
 
 pub serve_all_calls : (lines : List Line) (p : Plain) → AllBuilt lines → (serve_all p lines).calls ≡ p.calls + length lines
 serve_all_calls [] p b = omega arith
 serve_all_calls (line ∷ lines) p b =
-    let one : (served p line.call).calls ≡ p.calls + 1 = served_calls p line.call b.1 in
-    let rest : (serve_all (served p line.call) lines).calls ≡ (served p line.call).calls + length lines = serve_all_calls lines (served p line.call) b.2 in
+    let one : (served p line.call).calls ≡ p.calls + 1 = served_calls p line.call b.0.1 in
+    let rest : (serve_all (served p line.call) lines).calls ≡ (served p line.call).calls + length lines = serve_all_calls lines (served p line.call) b.1 in
     let size : length (line ∷ lines) ≡ suc (length lines) = refl in
     rest ∙ omega arith
 
@@ -81,7 +88,7 @@ all_stands lines b =
     serve_all_stands (one_phase lines) lines begun b
     (λ i. let k : 0 + 1 + i - 1 ≡ i = omega arith in
     ap (λ l. slice_get l (0 + 1 + i - 1)) (lines_all lines b) ∙ ap (λ m. slice_get (map in_first lines) m) k ∙ slice_get-map in_first lines i)
-    (record { legal = tt; store = refl; calls = refl; phases = refl; rows = tt })
+    (record { legal = tt; store = refl; calls = refl; phases = refl; rows = tt; charges = refl })
 
 size_map : (lines : List Line) → length (map in_first lines) ≡ length lines
 size_map [] = refl
@@ -108,3 +115,24 @@ plain_whole lines b =
     let w = past_whole lines b in
     let back : reverse (reverse (past_of lines)) ≡ past_of lines = reverse-reverse (past_of lines) in
     record { legal = rw back w.0; ended = rw back w.1 }
+
+length-map : {A B : Type 0} (f : A → B) (xs : List A) → length (map f xs) ≡ length xs
+length-map f [] = refl
+length-map f (x ∷ xs) = ap suc (length-map f xs)
+
+pub plain_adds : (lines : List Line) → AllBuilt lines → Adds (one_phase lines) (reverse (past_of lines)) (length (serve_all begun lines).rows)
+plain_adds lines b =
+    let st = all_stands lines b in
+    let p : Plain = serve_all begun lines in
+    let sc : Scenario = one_phase lines in
+    let back : reverse (reverse (past_of lines)) ≡ past_of lines = reverse-reverse (past_of lines) in
+    let held_none : held sc (past_of lines) 1 ≡ 0 =
+    ap (λ (s : Store). sum_by (λ (l : Alive). cond (last_is 1 (tasks_of l.value)) (weight sc (past_of lines) l.value) 0) s.live) st.store ∙ no_weight p.rows _ (λ r. refl) in
+    let out_none : out sc (past_of lines) 1 ≡ 0 =
+    ap (λ (s : Store). sum_by (λ (l : Alive). cond (first_is 1 (tasks_of l.value)) (weight sc (past_of lines) l.value) 0) s.live) st.store ∙ no_weight p.rows _ (λ r. refl) in
+    let totals : totals_of sc (past_of lines) ≡ record { ledger = 0; held = 0; out = 0 } ∷ [] =
+    λ i. record { ledger = st.charges i; held = held_none i; out = out_none i } ∷ [] in
+    let vouchers : vouchers_in (store_of sc (past_of lines)) ≡ length p.rows =
+    ap vouchers_in st.store ∙ ap different (append-nil (vouchers_at p.rows ++ []) ∙ append-nil (vouchers_at p.rows)) ∙ different_rows p.next (length p.past) p.rows st.rows in
+    let values : values_in (store_of sc (past_of lines)) ≡ 1 + length p.rows = ap values_in st.store ∙ ap (λ n. 1 + n) (length-map alive_of p.rows) in
+    record { totals = rw back totals; vouchers = rw back vouchers; values = rw back values }

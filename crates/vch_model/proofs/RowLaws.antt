@@ -144,7 +144,7 @@ Good-push next count (r ∷ rows) x n m none g =
     (λ _ e h. (omega arith, omega arith, Apart-push r rows x (omega arith) (omega arith) h g.2, Good-push next count rows x n m e g.3)) none refl
 
 -- no later row has the bytes of an earlier one
-Apart-none : (r : Row) (rows : List Row) → Apart r rows → name_with rows r.bytes ≡ None
+pub Apart-none : (r : Row) (rows : List Row) → Apart r rows → name_with rows r.bytes ≡ None
 Apart-none r [] a = refl
 Apart-none r (x ∷ rows) a =
     let e : equal_lists x.bytes r.bytes ≡ false = equal_lists-comm x.bytes r.bytes ∙ a.2 in

@@ -37,7 +37,7 @@ two = record {
 
 abbrev pub past : List Entry
 past = entries.Call 1 3 words.Assertions (replies.Assertions 0 1) ∷ entries.Call 2 1 words.Recv (replies.Received 1 5 1) ∷ entries.Made 2 (values.Chain (1 ∷ 2 ∷ []))
-  ∷ entries.Call 1 2 words.Send replies.Done ∷ entries.Call 1 1 words.Create (replies.Created 1) ∷ entries.Made 2 (values.Chain (1 ∷ [])) ∷ []
+    ∷ entries.Call 1 2 words.Send replies.Done ∷ entries.Call 1 1 words.Create (replies.Created 1) ∷ entries.Made 2 (values.Chain (1 ∷ [])) ∷ []
 
 held_by_two : held two past 2 ≡ 1
 unfolding create eval_all word_at

@@ -1,6 +1,6 @@
 -- The scenarios that can be run yet: one task without flags, one phase, and calls that store one record of user data or
 -- drop a name.
-use Rattle.std.specs.Prelude.{◌≡◌, ℕ, ◌≤◌, List, [], ◌∷◌, length}
+use Rattle.std.specs.Prelude.{◌≡◌, ℕ, ◌≤◌, List, [], ◌∷◌, length, slice_index_or}
 use Rattle.vch_base.specs.Managers.{no_flags}
 use Rattle.vch_recipe.specs.Recipes.{First, One, End, HeaderCut, ContentCut, first_of}
 use Rattle.vch_model.specs.declared.call.Call.{Call}
@@ -33,18 +33,21 @@ IsBuiltCall calls.Ledger = ⊥
 IsBuiltCall calls.Assertions = ⊥
 IsBuiltCall calls.Live = ⊥
 
+abbrev pub IsBuiltLine : Line → Type 0
+IsBuiltLine line = (line.task ≡ 1) × IsBuiltCall line.call
+
 abbrev pub AllBuilt : List Line → Type 0
 AllBuilt [] = Unit {0}
-AllBuilt (line ∷ lines) = (line.task ≡ 1) × IsBuiltCall line.call × AllBuilt lines
+AllBuilt (line ∷ lines) = IsBuiltLine line × AllBuilt lines
 
 -- one task without flags, and one phase of these lines
 abbrev pub one_phase : List Line → Scenario
 one_phase lines = record { flags = no_flags ∷ []; phases = lines ∷ [] }
 
-pub record IsBuilt (sc : Scenario) (lines : List Line) : Type 0 where
-  pub shape : sc ≡ one_phase lines
-  pub calls : AllBuilt lines
-  pub few : length lines ≤ 16384
+-- the lines of the first phase
+abbrev pub first_phase : Scenario → List Line
+first_phase sc = slice_index_or sc.phases 0 []
 
-abbrev pub CanRun : Scenario → Type 0
-CanRun sc = (lines : List Line) × IsBuilt sc lines
+pub record CanRun (sc : Scenario) : Type 0 where
+  pub shape : sc ≡ one_phase (first_phase sc)
+  pub calls : AllBuilt (first_phase sc)

@@ -1,5 +1,5 @@
 -- The plain run of one task that stores records of user data and drops names.
-use Rattle.std.specs.Prelude.{◌≡◌, ℕ, ◌+◌, ◌-◌, ◌<◌, ◌≤◌, ◌==◌, nat_lt, if◌then◌else◌, List, [], ◌∷◌, ◌++◌, length, map, Option, Some, None, pos, IfSome, slice_get, slice_set, slice_index_or, take, drop, suc, ◌⊎◌}
+use Rattle.std.specs.Prelude.{◌≡◌, ℕ, ◌+◌, ◌-◌, ◌<◌, ◌≤◌, ◌==◌, nat_lt, if◌then◌else◌, List, [], ◌∷◌, ◌++◌, length, map, reverse, Option, Some, None, pos, IfSome, slice_get, slice_set, slice_index_or, take, drop, suc, ◌⊎◌}
 use Rattle.vch_base.specs.declared.value.Value.TheVariants as values
 use Rattle.vch_recipe.specs.Recipes.{First, One, End, HeaderCut, ContentCut, first_of}
 use Rattle.vch_model.specs.declared.rows.Row.{Row}
@@ -14,6 +14,10 @@ use Rattle.vch_model.specs.Voucher.{Voucher, nothing}
 use Rattle.vch_base.specs.Values.{equal_lists}
 use Rattle.vch_model.specs.Store.{Store, Named, Alive}
 use Rattle.vch_model.specs.Replies.{refused}
+use Rattle.vch_model.specs.Built.{first_phase}
+use Rattle.vch_model.specs.After.{store_of}
+use Rattle.vch_model.specs.declared.lists.Scenario.{Scenario}
+use Rattle.vch_model.specs.Text.{totals_of, vouchers_in, values_in}
 
 -- the rows, the next name, the calls so far, and the history, the newest entry first
 pub record Plain : Type 0 where
@@ -102,6 +106,10 @@ view p = record {
 abbrev pub past_of : List Line → List Entry
 past_of lines = entries.Phase ∷ (serve_all begun lines).past
 
+-- the history of a scenario of one task and one phase, the oldest entry first
+abbrev pub history_of : Scenario → List Entry
+history_of sc = reverse (past_of (first_phase sc))
+
 -- each row has fewer references than a number
 abbrev pub RefsBelow : ℕ → List Row → Type 0
 RefsBelow n rows = (i : ℕ) → IfSome (slice_get rows i) (λ r. r.refs < n)
@@ -115,3 +123,9 @@ counts_of (Some r) = Some (r.refs, r.made)
 abbrev pub Lessened : List Row → List Row → ℕ → Type 0
 Lessened old new i = (r : Row) × (r ≡ slice_index_or old i r)
     × (((1 < r.refs) × (new ≡ slice_set old i (record r { refs = r.refs - 1 }))) ⊎ ((r.refs ≤ 1) × (new ≡ take i old ++ drop (suc i) old)))
+
+-- a history with nothing charged and no assertions, whose store has so many names, each with user data of its own
+pub record Adds (sc : Scenario) (history : List Entry) (names : ℕ) : Type 0 where
+  pub totals : totals_of sc (reverse history) ≡ record { ledger = 0; held = 0; out = 0 } ∷ []
+  pub vouchers : vouchers_in (store_of sc (reverse history)) ≡ names
+  pub values : values_in (store_of sc (reverse history)) ≡ 1 + names

@@ -13,6 +13,6 @@ pub use call::{Call, Line, Word};
 pub use entry::{Entry, Reply};
 pub use history::History;
 pub use lists::{FlagList, LineList, PhaseList, Scenario, TotalList};
-pub use plain::{Run, play_lines, serve};
-pub use rows::{Row, counts_of, less_at, more_at, name_with};
+pub use plain::{Run, can_run, play_plain, run_in_turn};
+pub use rows::Row;
 pub use total::Total;

@@ -1,17 +1,19 @@
-ghost use Rattle.std.specs.Prelude.{◌≡◌, ◌<◌, ◌≤◌, ◌+◌, ◌*◌, ◌∷◌, ◌++◌, [], length, OnOk, OnErr, IfOk, ℕ, List, reverse, Some, None};
-ghost use Rattle.vch_model.specs.Built.{Stores, IsBuiltCall, AllBuilt, one_phase};
+ghost use Rattle.std.specs.Prelude.{◌≡◌, ◌<◌, ◌≤◌, ◌+◌, ◌*◌, ◌∷◌, ◌++◌, [], length, OnOk, OnErr, IfOk, ℕ, List, reverse, Some, None, IsTrue, ◌↔◌};
+ghost use Rattle.vch_model.specs.Built.{Stores, IsBuiltCall, IsBuiltLine, AllBuilt, CanRun, one_phase, first_phase};
+ghost use Rattle.vch_model.specs.Scenarios.{IsLimited};
 ghost use Rattle.vch_model.specs.Plain as plain;
 ghost use Rattle.vch_model.specs.Legal.{Whole};
+ghost use Rattle.vch_base.specs.Managers.{no_flags};
 ghost use Rattle.vch_recipe.specs.Recipes.{first_of, One};
 ghost use Rattle.vch_model.specs.PlainRun.{state_of, Small};
 
 use crate::rows::{Row, counts_of, less_at, more_at, name_with};
-use crate::{Call, Entry, History, LineList, Reply, Word};
+use crate::{Call, Entry, History, Line, LineList, Reply, Scenario, Word};
 use std::alloc::Global;
-use vch_base::{Bytes, Code, NoMemory, Value};
+use vch_base::{Bytes, Code, Flags, NoMemory, Value};
 use vch_recipe::{Step, next_recipe};
 
-/// The rows, the next name, the calls so far, and the history.
+/// A plain run: a row for each name, the next name, the calls so far, and the history.
 #[derive(Drop)]
 pub struct Run {
     pub rows: Vec<Row>,
@@ -28,6 +30,28 @@ fn stored_content(bytes: &[u8]) -> &[u8]
     match next_recipe(bytes, 0) {
         Step::One { content, .. } => content,
         _ => unreachable!(),
+    }
+}
+
+/// Whether bytes are one record that stores user data.
+fn is_storing(bytes: &[u8]) -> bool
+    ensures { IsTrue result ↔ Stores bytes.now }
+{
+    match next_recipe(bytes, 0) {
+        Step::One {
+            key,
+            command,
+            previous,
+            next,
+            ..
+        } => {
+            bytes.len() <= 5120
+                && key == 7
+                && command == 211
+                && previous == 0
+                && next == bytes.len()
+        }
+        _ => false,
     }
 }
 
@@ -101,8 +125,8 @@ fn let_go(run: &mut Run, name: u32)
     }
 }
 
-/// One call.
-pub fn serve(run: &mut Run, alloc: Global, call: &Call) -> Result<(), NoMemory>
+/// One call of the only task.
+fn serve(run: &mut Run, alloc: Global, call: &Call) -> Result<(), NoMemory>
     requires built { IsBuiltCall call.now }
     requires small { Small run.old run.old.calls }
     requires few { run.old.calls < 16384 }
@@ -128,12 +152,70 @@ pub fn serve(run: &mut Run, alloc: Global, call: &Call) -> Result<(), NoMemory>
     }
 }
 
-/// The history of a list of calls in turn.
-pub fn play_lines(alloc: Global, lines: &LineList) -> Result<History, NoMemory>
+/// Whether a line may be run yet.
+fn is_built(line: &Line) -> bool
+    ensures { IsTrue result ↔ IsBuiltLine line.now }
+{
+    line.task == 1
+        && match &line.call {
+            Call::Create { bytes } => is_storing(bytes.as_slice()),
+            Call::GiveUp { .. } => true,
+            _ => false,
+        }
+}
+
+/// Whether all lines may be run yet.
+fn all_built(lines: &LineList) -> bool
+    ensures { IsTrue result ↔ AllBuilt lines.now }
+{
+    for i in 0..lines.len() {
+        if !is_built(lines.at(i)) {
+            return false;
+        }
+    }
+    true
+}
+
+fn is_unset(flags: &Flags) -> bool
+    ensures { IsTrue result ↔ (flags.now ≡ no_flags) }
+{
+    *flags
+        == Flags {
+            donor: false,
+            receiver: false,
+        }
+}
+
+/// Whether a scenario has one task without flags, and one phase.
+fn is_plain(scenario: &Scenario) -> bool
+    ensures { IsTrue result ↔ (scenario.now ≡ one_phase (first_phase scenario.now)) }
+{
+    if scenario.flags.len() != 1 {
+        return false;
+    }
+    if scenario.phases.len() != 1 {
+        return false;
+    }
+    is_unset(scenario.flags.at(0))
+}
+
+/// Whether `play_plain` can run a scenario: it has one task without flags and one phase, and its calls store one record
+/// of user data each or drop a name.
+pub fn can_run(scenario: &Scenario) -> bool
+    ensures { IsTrue result ↔ CanRun scenario.now }
+{
+    if !is_plain(scenario) {
+        return false;
+    }
+    all_built(scenario.phases.at(0))
+}
+
+/// The lines of a phase, served in turn, and the end of the phase.
+fn serve_lines(alloc: Global, lines: &LineList) -> Result<Run, NoMemory>
     requires built { AllBuilt lines.now }
     requires few { length lines.now ≤ 16384 }
-    ensures history { IfOk result (λ history. history.entries ≡ reverse (plain.past_of lines.now)) }
-    ensures whole { IfOk result (λ history. Whole history.entries (one_phase lines.now)) }
+    ensures history { IfOk result (λ run. run.history.entries ≡ reverse (plain.past_of lines.now)) }
+    ensures rows { IfOk result (λ run. run.rows.items ≡ (plain.serve_all plain.begun lines.now).rows) }
 {
     let mut run = Run {
         rows: Vec::new(alloc),
@@ -146,5 +228,28 @@ pub fn play_lines(alloc: Global, lines: &LineList) -> Result<History, NoMemory>
     }
     run.history.reserve(1)?;
     run.history.push(Entry::Phase);
+    Ok(run)
+}
+
+/// The calls of a scenario, served in turn on a plain list of rows, with the history that they leave.
+pub fn run_in_turn(alloc: Global, scenario: &Scenario) -> Result<Run, NoMemory>
+    requires built { CanRun scenario.now }
+    requires limited { IsLimited scenario.now }
+    ensures history { IfOk result (λ run. run.history.entries ≡ plain.history_of scenario.now) }
+    ensures whole { IfOk result (λ run. Whole run.history.entries scenario.now) }
+    ensures adds { IfOk result (λ run. plain.Adds scenario.now run.history.entries (length run.rows.items)) }
+{
+    serve_lines(alloc, scenario.phases.at(0))
+}
+
+/// The history of a scenario in turn, kept on a plain list of rows and without a reply for want of memory: such a want
+/// is the one error.
+pub fn play_plain(alloc: Global, scenario: &Scenario) -> Result<History, NoMemory>
+    requires built { CanRun scenario.now }
+    requires limited { IsLimited scenario.now }
+    ensures history { IfOk result (λ history. history.entries ≡ plain.history_of scenario.now) }
+    ensures whole { IfOk result (λ history. Whole history.entries scenario.now) }
+{
+    let run = run_in_turn(alloc, scenario)?;
     Ok(run.history)
 }

@@ -1,0 +1,15 @@
+pub mod Steps
+pub mod Fitting
+pub mod Runs
+pub mod Told
+pub mod Formed
+pub mod CallLines
+pub mod ItemLines
+pub mod StepLines
+pub mod FaultLines
+pub mod ItemRuns
+pub mod ItemBack
+pub mod Canons
+pub mod Texts
+pub mod OneAnswer
+pub mod Writables

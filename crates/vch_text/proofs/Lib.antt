@@ -1,0 +1,10 @@
+pub mod Fronts
+pub mod Splits
+pub mod Told
+pub mod WordsBack
+pub mod NumberSteps
+pub mod NumbersBack
+pub mod Decimals
+pub mod Hexes
+pub mod Plain
+pub mod Amounts
