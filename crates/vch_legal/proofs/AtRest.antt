@@ -1,32 +1,30 @@
 -- Where no task has a next event: no frame is there, each call of the phase is answered, and each listed value is held.
-use Rattle.std.proofs.Common.{◌≡◌, ℕ, zero, suc, ◌+◌, ◌-◌, ◌<◌, ◌≤◌, Bool, List, [], ◌∷◌, ◌++◌, refl, true, false, not, ◌&&◌, ◌||◌, arith, sym, ap, ◌∙◌, subst, length, get_or, Some, None, Option}
+use Rattle.std.proofs.Common.{◌≡◌, ℕ, zero, suc, ◌+◌, ◌<◌, ◌≤◌, Bool, List, [], ◌∷◌, ◌++◌, refl, true, false, not, ◌&&◌, ◌||◌, arith, sym, ap, ◌∙◌, subst, length, get_or, Some, None, Option}
 use Rattle.std.specs.Prelude.{if◌then◌else◌, ◌==◌, nat_lt, is_some}
-use Rattle.std.specs.List.{list_any, list_all, flat_map}
+use Rattle.std.specs.List.{list_any}
 use Rattle.vch_base.specs.declared.key.Key.{Key}
 use Rattle.vch_base.specs.declared.key.Key.TheVariants as keys
-use Rattle.vch_base.specs.declared.kind.Kind.{Kind}
 use Rattle.vch_base.specs.declared.kind.Kind.TheVariants as kinds
 use Rattle.vch_base.specs.Keys.{number_of, key_of}
 use Rattle.vch_base.specs.Values.{Belongs, is_default}
 use Rattle.vch_base.specs.declared.value.Value.{Value}
 use Rattle.vch_base.specs.declared.value.Value.TheVariants as values
-use Rattle.vch_recipe.specs.Recipes.{First, One, first_of}
 use Rattle.vch_model.specs.declared.call.Call.{Call}
 use Rattle.vch_model.specs.declared.call.Call.TheVariants as calls
 use Rattle.vch_model.specs.declared.lists.Scenario.{Scenario}
 use Rattle.vch_model.specs.Store as store
 use Rattle.vch_model.specs.Legal.{EachTask, all_held}
 use Rattle.vch_model.specs.Lines.{calls_in, phases_in, is_task, lines_until}
-use Rattle.vch_machine.specs.State.{Handles, Place, same_place, Living, Named, Claim, Frame, Tasked, Machine, idle, tasked, seen, living_at, handle_of, alive_of, member_of, task_holds, frame_holds, is_held, is_empty, default_place, default_living}
+use Rattle.vch_machine.specs.State.{Handles, Place, Living, Named, Claim, Frame, Tasked, Machine, idle, tasked, seen, living_at, handle_of, member_of, task_holds, frame_holds, is_empty, default_place, default_living}
 use Rattle.vch_machine.specs.Events.{ready, numbers}
 use Rattle.vch_machine.specs.Leaving.{is_fixed, is_fixed_value}
-use Rattle.vch_machine.specs.Next.{next_kind, task_next, nth_call, claim_next, call_next, formed_next, lets_next, unclaimed_next, frame_next}
+use Rattle.vch_machine.specs.Next.{next_kind, task_next, nth_call, call_next, formed_next, lets_next, unclaimed_next, frame_next}
 use Rattle.vch_legal.specs.Facts.{Fits, bit}
-use Rattle.vch_legal.specs.Tie.{FrameForms, IsForming, is_answering, is_open, IsOpen, TaskStands, any_frame, Stands}
+use Rattle.vch_legal.specs.Tie.{FrameForms, IsForming, is_answering, is_open, IsOpen, any_frame}
 use Rattle.vch_legal.proofs.EventSpots.{cases_bool}
 use Rattle.vch_legal.proofs.StartFits.{rest_held}
 use Rattle.vch_legal.proofs.SeenHeld.{seen_held, vouchers_hold}
-use Rattle.vch_legal.proofs.SeenValues.{at_most_once, Each, each_of, all_listed, found_place}
+use Rattle.vch_legal.proofs.SeenValues.{at_most_once, each_of, all_listed, found_place}
 use Rattle.vch_legal.proofs.OwnSteps.{Before}
 
 keys_next : (b : Bool) → is_some (if b then Some kinds.Place else Some kinds.Make) ≡ true
@@ -89,7 +87,7 @@ task_rests sc m t s e = by_frame (tasked m t).frame refl e
         none false h = refl
     by_frame (Some f) g h =
         let k : is_some (frame_next (tasked m t).names f (nth_call sc t (tasked m t).begun) f.receipt) ≡ true =
-            frame_has_next sc m.live (member_of m.live (tasked m t)) t (tasked m t).begun (tasked m t).names f (subst (λ (o : Option Frame). IsForming sc m.live (member_of m.live (tasked m t)) t (tasked m t).begun o) g s.forming) (subst IsOpen g s.open_frame) in cc
+        frame_has_next sc m.live (member_of m.live (tasked m t)) t (tasked m t).begun (tasked m t).names f (subst (λ (o : Option Frame). IsForming sc m.live (member_of m.live (tasked m t)) t (tasked m t).begun o) g s.forming) (subst IsOpen g s.open_frame) in cc
 
 -- a task that rests has answered all that it had to
 pub rest_answered : (sc : Scenario) (m : Machine) (t : ℕ) → Before sc t m → Rests sc m t → calls_in m.past t ≡ lines_until sc (phases_in m.past + 1) t

@@ -1,21 +1,18 @@
 -- Begin, to its own task: a send, a recv, and every call.
-use Rattle.std.proofs.Common.{◌≡◌, ◌⊎◌, inl, inr, ℕ, ◌+◌, ◌-◌, ◌<◌, ◌≤◌, Bool, List, [], ◌∷◌, ◌++◌, refl, true, false, not, ◌&&◌, ◌||◌, arith, sym, ap, ◌∙◌, subst, length, map, get_or, Some, None, Option}
-use Rattle.std.specs.Prelude.{if◌then◌else◌, ◌==◌, nat_lt, is_some, ℤ, pos}
+use Rattle.std.proofs.Common.{◌≡◌, inl, ℕ, ◌+◌, ◌-◌, ◌<◌, ◌≤◌, Bool, List, [], ◌∷◌, ◌++◌, refl, true, false, not, ◌&&◌, arith, sym, ap, ◌∙◌, subst, length, map, get_or, Some, None, Option}
+use Rattle.std.specs.Prelude.{if◌then◌else◌, ◌==◌, nat_lt, pos}
 use Rattle.vch_base.specs.declared.key.Key.TheVariants as keys
-use Rattle.vch_base.specs.declared.kind.Kind.{Kind}
 use Rattle.vch_model.specs.declared.call.Call.{Call}
 use Rattle.vch_model.specs.declared.call.Call.TheVariants as calls
-use Rattle.vch_model.specs.declared.entry.Reply.{Reply}
 use Rattle.vch_model.specs.declared.entry.Reply.TheVariants as replies
 use Rattle.vch_model.specs.declared.lists.Scenario.{Scenario}
 use Rattle.vch_model.specs.Voucher.{Voucher}
-use Rattle.vch_model.specs.Store as store
-use Rattle.vch_model.specs.Store.{Store, Member, member}
+use Rattle.vch_model.specs.Store.{Member, member}
 use Rattle.vch_model.specs.After.{is_want, queued, taken_first, received, store_after_call}
 use Rattle.vch_model.specs.Lines.{is_task, phases_in, lines_until}
 use Rattle.vch_model.specs.Replies.{refused, reply_to}
 use Rattle.vch_model.specs.Legal.{option_all_live, voucher_given, voucher_received}
-use Rattle.vch_machine.specs.State.{Handles, Frame, Tasked, Machine, Message, idle, tasked, with_tasked, seen, valued, valued_option, message_of, member_of}
+use Rattle.vch_machine.specs.State.{Handles, Tasked, Machine, Message, idle, tasked, with_tasked, seen, valued, valued_option, message_of}
 use Rattle.vch_machine.specs.Beginning.{begun_one, fresh_frame, key_if, store_reply, dequeued, enqueued, is_full, first_voucher, begin_recv, begin_send, begin_call, begin_line, do_begin}
 use Rattle.vch_machine.specs.Frames.{with_frame, replied}
 use Rattle.vch_machine.specs.Naming.{handles_of}
@@ -28,7 +25,7 @@ use Rattle.vch_legal.proofs.SeenCalls.{room_seen, seen_queued, seen_taken}
 use Rattle.vch_legal.proofs.Standing.{Step}
 use Rattle.vch_legal.proofs.OwnSteps.{Before, Answered}
 use Rattle.vch_legal.proofs.PlaceSteps.{IsStep}
-use Rattle.vch_legal.proofs.BeginSteps.{Starting, counted, counted_seen, counted_task, begun_answer, unanswered, if_same, quiet_answer, wanting_answer, longer, drop_answer}
+use Rattle.vch_legal.proofs.BeginSteps.{Starting, counted, counted_seen, counted_task, begun_answer, unanswered, quiet_answer, wanting_answer, longer, drop_answer}
 use Rattle.vch_legal.proofs.BeginFrames.{framed_begin, create_begins, receives_after, named_begins}
 
 step_if : (sc : Scenario) (t : ℕ) (m a b : Machine) (c : Bool) → (c ≡ true → Step sc t m a) → (c ≡ false → Step sc t m b) → Step sc t m (if c then a else b)

@@ -1,45 +1,36 @@
 -- Begin, to its own task, by call.
-use Rattle.std.proofs.Common.{◌≡◌, ◌⊎◌, inl, inr, ℕ, ◌+◌, ◌-◌, ◌<◌, ◌≤◌, Bool, List, [], ◌∷◌, ◌++◌, refl, true, false, not, ◌&&◌, ◌||◌, arith, sym, ap, ◌∙◌, subst, length, map, get_or, Some, None, Option}
-use Rattle.std.specs.Prelude.{if◌then◌else◌, ◌==◌, nat_lt, is_some, ℤ, pos}
+use Rattle.std.proofs.Common.{◌≡◌, ℕ, ◌+◌, ◌-◌, ◌≤◌, Bool, List, [], ◌∷◌, ◌++◌, refl, true, false, not, ◌&&◌, ◌||◌, arith, sym, ap, ◌∙◌, subst, length, Some, None, Option}
+use Rattle.std.specs.Prelude.{if◌then◌else◌, ◌==◌, nat_lt, is_some}
 use Rattle.vch_base.specs.declared.key.Key.{Key}
 use Rattle.vch_base.specs.declared.key.Key.TheVariants as keys
-use Rattle.vch_base.specs.declared.value.Value.{Value}
 use Rattle.vch_model.specs.declared.call.Call.{Call}
 use Rattle.vch_model.specs.declared.call.Call.TheVariants as calls
-use Rattle.vch_model.specs.declared.entry.Reply.{Reply}
-use Rattle.vch_model.specs.declared.entry.Reply.TheVariants as replies
 use Rattle.vch_model.specs.declared.lists.Scenario.{Scenario}
-use Rattle.vch_model.specs.Voucher.{Voucher, nothing}
-use Rattle.vch_model.specs.Store as store
-use Rattle.vch_model.specs.Store.{Store, Member, member, voucher_of}
+use Rattle.vch_model.specs.Voucher.{Voucher}
+use Rattle.vch_model.specs.Store.{member, voucher_of}
 use Rattle.vch_model.specs.Transfer.{received_value, before, after}
-use Rattle.vch_model.specs.Eval.{eval_all}
 use Rattle.vch_base.specs.Managers.{sent}
 use Rattle.vch_model.specs.After.{is_want, queued, taken_first, received, placed, store_after_call}
 use Rattle.vch_model.specs.After as stores
 use Rattle.vch_model.specs.Lines.{is_task, phases_in, calls_in, lines_until}
-use Rattle.vch_model.specs.Replies.{refused, receiving, reply_to}
-use Rattle.vch_model.specs.Legal.{IsAnswer, option_all_live, voucher_made, voucher_given, voucher_received, voucher_sent}
-use Rattle.vch_machine.specs.State.{Handles, no_handles, Living, Named, Frame, Tasked, Machine, Message, idle, tasked, with_tasked, seen, living_at, value_of, value_at, valued, valued_option, message_of, member_of, is_empty}
-use Rattle.vch_machine.specs.Beginning.{begun_one, fresh_frame, key_if, store_reply, dequeued, enqueued, is_full, first_voucher, begin_recv, begin_send, begin_call, begin_line}
+use Rattle.vch_model.specs.Legal.{voucher_sent}
+use Rattle.vch_machine.specs.State.{Handles, no_handles, Living, Tasked, Machine, tasked, seen, living_at, value_of, value_at, valued, valued_option, member_of, is_empty}
+use Rattle.vch_machine.specs.Beginning.{begun_one, fresh_frame, key_if, store_reply, begin_call}
 use Rattle.vch_machine.specs.Frames.{with_frame, replied}
 use Rattle.vch_machine.specs.Naming.{handles_of}
-use Rattle.vch_machine.specs.Next.{nth_call}
 use Rattle.vch_legal.specs.Facts.{Fits, bit}
-use Rattle.vch_legal.specs.Tie.{FormsCreate, Forms, IsForming, transfer_keys, first_in, is_answering, IsOpen}
+use Rattle.vch_legal.specs.Tie.{Forms, IsForming, transfer_keys, is_answering, IsOpen}
 use Rattle.vch_legal.proofs.Forming.{LiveAt}
-use Rattle.vch_legal.proofs.OwnTask.{set_keeps, Near, near_queued}
 use Rattle.vch_legal.proofs.SeenNames.{LiveAll}
-use Rattle.vch_legal.proofs.SeenTasks.{member_seen, seen_frame, own_task}
-use Rattle.vch_legal.proofs.SeenCalls.{room_seen, seen_queued, seen_taken}
+use Rattle.vch_legal.proofs.SeenTasks.{seen_frame, own_task}
 use Rattle.vch_legal.proofs.HeldLive.{names_live}
-use Rattle.vch_legal.proofs.Records.{seen_names, voucher_seen, LiveOption, named_live}
+use Rattle.vch_legal.proofs.Records.{voucher_seen, LiveOption, named_live}
 use Rattle.vch_legal.proofs.Follows.{Follows}
 use Rattle.vch_legal.proofs.Lifts.{Lives}
 use Rattle.vch_legal.proofs.Standing.{Step}
 use Rattle.vch_legal.proofs.Nexts.{forms_in}
 use Rattle.vch_legal.proofs.Refusals.{names_seen}
-use Rattle.vch_legal.proofs.BeginSteps.{Starting, counted, counted_seen, counted_task, start_number, begun_answer, plain_answer, if_same, quiet_answer, wanting_answer, no_create, longer, drop_answer}
+use Rattle.vch_legal.proofs.BeginSteps.{Starting, counted, counted_seen, counted_task, start_number, quiet_answer, no_create, longer}
 
 -- a frame begins
 pub framed_begin : (sc : Scenario) (t : ℕ) (m : Machine) (call : Call) (v : Handles) (ks : List Key) → Starting sc t m call → Forms sc (member_of m.live (tasked m t)) t call 0 ks (valued m.live v)

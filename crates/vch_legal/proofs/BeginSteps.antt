@@ -1,34 +1,31 @@
 -- Begin, to its own task, where the call is answered at once.
-use Rattle.std.proofs.Common.{◌≡◌, ◌⊎◌, inl, inr, ℕ, ◌+◌, ◌-◌, ◌<◌, ◌≤◌, Bool, List, [], ◌∷◌, ◌++◌, refl, true, false, not, ◌&&◌, ◌||◌, arith, sym, ap, ◌∙◌, subst, length, map, get_or, Some, None, Option, Ok, Err, Result}
+use Rattle.std.proofs.Common.{◌≡◌, inl, inr, ℕ, ◌+◌, ◌-◌, ◌<◌, ◌≤◌, Bool, List, ◌∷◌, refl, true, false, not, ◌&&◌, ◌||◌, arith, sym, ap, ◌∙◌, subst, length, Some, None, Option}
 use Rattle.std.proofs.Math.ListN.{set}
 use Rattle.std.proofs.lemmas.List.{length-set}
-use Rattle.std.specs.Prelude.{if◌then◌else◌, ◌==◌, nat_lt, is_some, ℤ, pos, negsuc}
+use Rattle.std.specs.Prelude.{if◌then◌else◌, ◌==◌, nat_lt, pos}
 use Rattle.vch_model.specs.declared.call.Call.{Call}
 use Rattle.vch_model.specs.declared.call.Call.TheVariants as calls
-use Rattle.vch_model.specs.declared.entry.Entry.{Entry}
 use Rattle.vch_model.specs.declared.entry.Entry.TheVariants as entries
 use Rattle.vch_model.specs.declared.entry.Reply.{Reply}
-use Rattle.vch_model.specs.declared.entry.Reply.TheVariants as replies
 use Rattle.vch_model.specs.declared.lists.Scenario.{Scenario}
 use Rattle.vch_model.specs.Voucher.{Voucher}
-use Rattle.vch_model.specs.Store.{Store, Member, member, voucher_of}
+use Rattle.vch_model.specs.Store.{Store}
 use Rattle.vch_model.specs.Eval.{create}
 use Rattle.vch_model.specs.Words.{word_of}
-use Rattle.vch_model.specs.After.{is_want, placed, queued, sent, taken_first, received, store_after_call}
-use Rattle.vch_model.specs.Lines.{is_task, calls_in, phases_in, lines_until}
+use Rattle.vch_model.specs.After.{is_want, placed, store_after_call}
+use Rattle.vch_model.specs.Lines.{calls_in, phases_in, lines_until}
 use Rattle.vch_model.specs.Totals.{named_voucher}
-use Rattle.vch_model.specs.Replies.{refused, given_up, reply_to}
-use Rattle.vch_model.specs.Legal.{IsAnswer, option_all_live, voucher_made, voucher_given, voucher_received, voucher_sent, may_want, has_code}
-use Rattle.vch_machine.specs.State.{Handles, Frame, Tasked, Machine, Message, idle, tasked, with_tasked, seen, valued, message_of, member_of}
-use Rattle.vch_machine.specs.Beginning.{begun_one, leaving_frame, store_reply, or_want, dropped, dequeued, enqueued, is_full, first_voucher}
+use Rattle.vch_model.specs.Replies.{refused, given_up}
+use Rattle.vch_model.specs.Legal.{IsAnswer, option_all_live, voucher_made, voucher_given, may_want, has_code}
+use Rattle.vch_machine.specs.State.{Frame, Tasked, Machine, tasked, with_tasked, seen, member_of}
+use Rattle.vch_machine.specs.Beginning.{begun_one, leaving_frame, store_reply, or_want, dropped}
 use Rattle.vch_machine.specs.Frames.{closed, with_frame, replied}
 use Rattle.vch_machine.specs.Naming.{one_less, handles_of, orphaned}
 use Rattle.vch_machine.specs.Next.{nth_call}
 use Rattle.vch_legal.specs.Facts.{bit}
 use Rattle.vch_legal.specs.Tie.{is_answering}
-use Rattle.vch_legal.proofs.OwnTask.{set_keeps}
-use Rattle.vch_legal.proofs.SeenTasks.{member_seen, seen_same, seen_frame, own_task}
-use Rattle.vch_legal.proofs.SeenCalls.{seen_less, room_seen, seen_queued, seen_taken}
+use Rattle.vch_legal.proofs.SeenTasks.{seen_same, seen_frame, own_task}
+use Rattle.vch_legal.proofs.SeenCalls.{seen_less}
 use Rattle.vch_legal.proofs.Lifts.{Lives}
 use Rattle.vch_legal.proofs.Standing.{Step}
 use Rattle.vch_legal.proofs.OwnSteps.{Before, Answered, unformed, call_follows, closed_answered}

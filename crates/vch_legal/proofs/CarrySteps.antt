@@ -1,31 +1,26 @@
 -- The end of a send and of a recv, to its own task.
-use Rattle.std.proofs.Common.{◌≡◌, ◌⊎◌, inl, inr, ℕ, ◌+◌, ◌-◌, ◌<◌, Bool, List, [], ◌∷◌, ◌++◌, refl, true, false, not, ◌&&◌, ◌||◌, arith, sym, ap, ◌∙◌, subst, length, map, Some, None, Option}
+use Rattle.std.proofs.Common.{◌≡◌, inl, ℕ, ◌-◌, ◌<◌, Bool, List, [], ◌∷◌, ◌++◌, refl, true, false, not, ◌||◌, arith, sym, ap, ◌∙◌, subst, length, map, Some, None}
 use Rattle.std.proofs.lemmas.List.{length-set}
-use Rattle.std.specs.Prelude.{if◌then◌else◌, ◌==◌, nat_lt, is_some, ℤ, pos}
+use Rattle.std.specs.Prelude.{if◌then◌else◌, nat_lt, is_some, pos}
 use Rattle.vch_base.specs.declared.key.Key.{Key}
-use Rattle.vch_base.specs.declared.kind.Kind.{Kind}
 use Rattle.vch_base.specs.declared.kind.Kind.TheVariants as kinds
-use Rattle.vch_model.specs.declared.call.Call.{Call}
 use Rattle.vch_model.specs.declared.call.Call.TheVariants as calls
-use Rattle.vch_model.specs.declared.entry.Reply.{Reply}
 use Rattle.vch_model.specs.declared.entry.Reply.TheVariants as replies
 use Rattle.vch_model.specs.declared.lists.Scenario.{Scenario}
 use Rattle.vch_model.specs.Voucher.{Voucher}
-use Rattle.vch_model.specs.Store as store
-use Rattle.vch_model.specs.Store.{Store, Member, member, set_member, voucher_of, given, gives_name, all_live}
-use Rattle.vch_model.specs.Transfer.{before, after}
-use Rattle.vch_model.specs.Lines.{is_task}
-use Rattle.vch_model.specs.After.{is_want, queued, let_go, sent, taken_first, received, store_after_call}
-use Rattle.vch_model.specs.Replies.{refused, sending, receiving, reply_to}
-use Rattle.vch_model.specs.Legal.{IsAnswer, option_all_live, voucher_sent, voucher_given, voucher_received}
-use Rattle.vch_machine.specs.State.{Handles, Frame, Tasked, Machine, Message, idle, tasked, with_tasked, seen, valued, valued_option, named_of, message_of, member_of, is_empty}
+use Rattle.vch_model.specs.Store.{Store, Member, member, voucher_of, given, gives_name}
+use Rattle.vch_model.specs.Transfer.{after}
+use Rattle.vch_model.specs.After.{queued, let_go, sent, received, store_after_call}
+use Rattle.vch_model.specs.Replies.{refused, receiving, reply_to}
+use Rattle.vch_model.specs.Legal.{option_all_live, voucher_given, voucher_received}
+use Rattle.vch_machine.specs.State.{Handles, Frame, Tasked, Machine, Message, tasked, with_tasked, seen, valued, valued_option, message_of, member_of, is_empty}
 use Rattle.vch_machine.specs.Beginning.{enqueued, is_full}
 use Rattle.vch_machine.specs.Frames.{refuse}
 use Rattle.vch_machine.specs.Naming.{name_of, name_for, one_less, with_name, handles_of, orphaned, doubled}
 use Rattle.vch_machine.specs.Placing.{moved_name, place_send, place_recv, do_place}
 use Rattle.vch_machine.specs.Next.{call_next}
 use Rattle.vch_legal.specs.Facts.{Fits}
-use Rattle.vch_legal.specs.Tie.{FormsSend, FormsRecv, first_in, transfer_keys}
+use Rattle.vch_legal.specs.Tie.{FormsSend, FormsRecv, first_in}
 use Rattle.vch_legal.proofs.FrameSpots.{task_in_range}
 use Rattle.vch_legal.proofs.OwnTask.{Near, near_self, near_queued, near_own, near_then, named_begun}
 use Rattle.vch_legal.proofs.SeenNames.{LiveAll, AllLive}
@@ -104,8 +99,10 @@ send_place sc t m f v to moving name id fits c forming s room =
     placed_step sc t m mid f (doubled m v ++ orphaned mid (handles_of (tasked m t).names name)) (calls.Send to moving name id) replies.Done c
     (moved_past t (enqueued m to (sent_message t id v)) moving name) near.live
     (subst (λ i. t - 1 < i) (sym near.tasks) (task_in_range m t f c.frame)) near.begun (send_store sc t m to moving name id v s room)
-    (inl (sym (send_reply sc t m to moving name id v true s room),
-    ap (option_all_live (seen m)) (send_given sc t m to moving name id v s room) ∙ voucher_lives sc m v fits (forming_live sc m t f v fits c.frame forming)))
+    (inl (
+      sym (send_reply sc t m to moving name id v true s room),
+      ap (option_all_live (seen m)) (send_given sc t m to moving name id v s room) ∙ voucher_lives sc m v fits (forming_live sc m t f v fits c.frame forming),
+    ))
   where
     mid : Machine
     mid = moved_name (enqueued m to (record { sender = t; id = id; voucher = Some v })) t moving name
@@ -151,8 +148,11 @@ recv_store : (sc : Scenario) (t : ℕ) (m : Machine) (v : Handles) (q : Message)
     × (receiving sc (seen m) t (member (seen m) t).queue ≡ replies.Received q.sender q.id (name_for (record (tasked m t) { queue = queue }) (name_of (tasked m t).names v)))
     × (voucher_received sc t (member (seen m) t).queue ≡ Some (valued m.live v))
 recv_store sc t m v q queue w fits live l e first made =
-    rw (queue_seen, first) (ap seen (sym (replaced m t x (with_name x v (name_of x.names v)))) ∙ (given_there ∙ ap (λ s. given s t (after sc t w)) (seen_taken m t queue)),
-    ap (replies.Received q.sender q.id) (sym (ap (λ s. gives_name s t (after sc t w)) (seen_taken m t queue)) ∙ gives_there), ap Some (sym made))
+    rw (queue_seen, first) (
+      ap seen (sym (replaced m t x (with_name x v (name_of x.names v)))) ∙ (given_there ∙ ap (λ s. given s t (after sc t w)) (seen_taken m t queue)),
+      ap (replies.Received q.sender q.id) (sym (ap (λ s. gives_name s t (after sc t w)) (seen_taken m t queue)) ∙ gives_there),
+      ap Some (sym made),
+    )
   where
     x : Tasked
     x = record (tasked m t) { queue = queue }

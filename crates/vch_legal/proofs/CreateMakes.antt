@@ -1,20 +1,20 @@
 -- What a create has formed, where a manager answers.
-use Rattle.std.proofs.Common.{◌≡◌, ℕ, zero, suc, ◌+◌, ◌-◌, ◌<◌, ◌≤◌, Bool, List, [], ◌∷◌, ◌++◌, refl, true, false, not, ◌&&◌, ◌||◌, arith, sym, ap, ◌∙◌, subst, length, drop, Some, None, Option, Ok, Err, Result}
-use Rattle.std.specs.Prelude.{if◌then◌else◌, ◌==◌, nat_lt, is_some, ℤ, pos}
+use Rattle.std.proofs.Common.{◌≡◌, ℕ, ◌<◌, ◌≤◌, List, [], ◌∷◌, refl, true, false, arith, sym, ap, ◌∙◌, subst, length, drop, Some, None, Option, Ok, Err, Result}
+use Rattle.std.specs.Prelude.{◌==◌, ℤ}
 use Rattle.vch_base.specs.declared.key.Key.{Key}
 use Rattle.vch_base.specs.declared.key.Key.TheVariants as keys
 use Rattle.vch_base.specs.Keys.{key_of}
 use Rattle.vch_base.specs.declared.value.Value.{Value}
-use Rattle.vch_recipe.specs.Recipes.{First, One, End, HeaderCut, ContentCut, first_of}
+use Rattle.vch_recipe.specs.Recipes.{First, One, first_of}
 use Rattle.vch_recipe.specs.declared.recipe.Recipe.{Recipe}
 use Rattle.vch_model.specs.Voucher.{Voucher, nothing, set_at}
-use Rattle.vch_model.specs.Eval.{answer_to, put_answer, previous_value, each_key, redeemed, eval, eval_all}
+use Rattle.vch_model.specs.Eval.{answer_to, put_answer, previous_value, redeemed, eval, eval_all}
 use Rattle.vch_model.specs.Legal.{asks, reaches}
-use Rattle.vch_machine.specs.State.{Handles, of_key, Living, Named, value_at, valued, is_empty}
-use Rattle.vch_machine.specs.Making.{Asked, head_key, tail_keys, previous_of, asked_record, asked_first}
-use Rattle.vch_legal.specs.Tie.{previous_in, redeem_keys, ahead_create, ahead_first, KeysFit, FormsCreate, moved_keys_first, moved_place_first}
+use Rattle.vch_machine.specs.State.{Handles, of_key, Living, Named, value_at, valued}
+use Rattle.vch_machine.specs.Making.{Asked, head_key, previous_of, asked_record, asked_first}
+use Rattle.vch_legal.specs.Tie.{previous_in, ahead_create, ahead_first, KeysFit, FormsCreate, moved_keys_first, moved_place_first}
 use Rattle.vch_legal.proofs.EventSpots.{cases_bool}
-use Rattle.vch_legal.proofs.Forming.{After, rest_of, eval_bound}
+use Rattle.vch_legal.proofs.Forming.{rest_of, eval_bound}
 use Rattle.vch_legal.proofs.Records.{seen_names, previous_alike, eval_asked, carried_one, carried_all, redeems}
 use Rattle.vch_legal.proofs.Creates.{Names, then_eval, eval_step, reaches_asking, behind, refused_forms}
 

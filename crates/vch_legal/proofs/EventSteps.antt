@@ -6,7 +6,7 @@ use Rattle.vch_base.specs.declared.kind.Kind.TheVariants as kinds
 use Rattle.vch_model.specs.declared.call.Call.{Call}
 use Rattle.vch_model.specs.declared.call.Call.TheVariants as calls
 use Rattle.vch_model.specs.declared.lists.Scenario.{Scenario}
-use Rattle.vch_model.specs.Lines.{is_task, phases_in, lines_until}
+use Rattle.vch_model.specs.Lines.{is_task, phases_in}
 use Rattle.vch_machine.specs.State.{Handles, Place, Claim, Frame, Machine, tasked}
 use Rattle.vch_machine.specs.Events.{event, event_of, frame_event, on_formed, on_place, on_lets, on_the_claim}
 use Rattle.vch_machine.specs.Next.{next_kind, task_next, nth_call, call_next, frame_next}

@@ -2,13 +2,12 @@
 use Rattle.std.proofs.Common.{◌≡◌, ◌≢◌, ℕ, zero, suc, ◌+◌, ◌-◌, Bool, List, [], ◌∷◌, ◌++◌, refl, true, false, not, arith, sym, ap, ◌∙◌, subst, length, get_or, Some, None, Option, Ok, Err, Result}
 use Rattle.std.proofs.Math.ListN.{set}
 use Rattle.std.proofs.lemmas.List.{get_or-set_other}
-use Rattle.std.specs.Prelude.{if◌then◌else◌, ◌==◌, nat_lt, ℤ, pos}
+use Rattle.std.specs.Prelude.{if◌then◌else◌, ◌==◌, nat_lt, ℤ}
 use Rattle.vch_model.specs.declared.call.Call.{Call}
 use Rattle.vch_model.specs.declared.call.Call.TheVariants as calls
 use Rattle.vch_model.specs.declared.call.Line.{Line}
 use Rattle.vch_model.specs.declared.entry.Entry.{Entry}
 use Rattle.vch_model.specs.declared.entry.Entry.TheVariants as entries
-use Rattle.vch_model.specs.declared.entry.Reply.{Reply}
 use Rattle.vch_model.specs.declared.lists.Scenario.{Scenario}
 use Rattle.vch_model.specs.Voucher.{Voucher}
 use Rattle.vch_model.specs.Store.{Store, Member, Message, nobody, member, set_member, voucher_of, with_name, name_of}

@@ -1,11 +1,11 @@
 -- What a task holds is live.
-use Rattle.std.proofs.Common.{◌≡◌, ℕ, zero, suc, ◌-◌, Bool, List, [], ◌∷◌, refl, true, false, not, ◌&&◌, ◌||◌, arith, sym, ap, ◌∙◌, subst, Some, None, Option}
+use Rattle.std.proofs.Common.{◌≡◌, ℕ, ◌-◌, Bool, List, [], ◌∷◌, refl, true, false, ◌||◌, arith, sym, ap, ◌∙◌, Some, None, Option}
 use Rattle.std.specs.Prelude.{◌==◌, is_some}
 use Rattle.std.specs.List.{list_any}
 use Rattle.vch_base.specs.declared.key.Key.{Key}
 use Rattle.vch_base.specs.declared.key.Key.TheVariants as keys
 use Rattle.vch_model.specs.declared.lists.Scenario.{Scenario}
-use Rattle.vch_machine.specs.State.{Handles, of_key, Place, Living, Named, Message, Frame, Tasked, Machine, idle, tasked, living_at, is_handle, has_place, option_has, frame_holds, task_holds, is_held, is_expected}
+use Rattle.vch_machine.specs.State.{Handles, of_key, Place, Living, Named, Message, Frame, Machine, tasked, living_at, is_handle, has_place, option_has, frame_holds, task_holds, is_held, is_expected}
 use Rattle.vch_legal.specs.Facts.{Fits, Spot, spot, spot_fits}
 use Rattle.vch_legal.proofs.Forming.{LiveAt}
 use Rattle.vch_legal.proofs.SeenNames.{LiveAll, AllLive}

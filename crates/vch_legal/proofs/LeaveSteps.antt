@@ -1,15 +1,14 @@
 -- LetGo, Ask and Recheck, to their own task: a Released entry may follow, and else nothing is seen.
-use Rattle.std.proofs.Common.{◌≡◌, ℕ, ◌+◌, ◌-◌, ◌<◌, Bool, List, [], ◌∷◌, ◌++◌, refl, true, false, not, ◌&&◌, ◌||◌, arith, sym, ap, ◌∙◌, subst, length, map, Some, None, Option}
+use Rattle.std.proofs.Common.{◌≡◌, ℕ, ◌-◌, Bool, List, [], ◌∷◌, ◌++◌, refl, true, false, not, ◌||◌, arith, sym, ap, ◌∙◌, subst, length, map, Some, None, Option}
 use Rattle.std.specs.Prelude.{if◌then◌else◌, nat_lt, is_some}
 use Rattle.std.specs.List.{list_any, flat_map}
 use Rattle.vch_model.specs.declared.entry.Entry.TheVariants as entries
 use Rattle.vch_model.specs.declared.lists.Scenario.{Scenario}
-use Rattle.vch_base.specs.Values.{is_default}
 use Rattle.vch_model.specs.Store as store
 use Rattle.vch_model.specs.Store.{Member}
 use Rattle.vch_model.specs.After.{store_after}
 use Rattle.vch_model.specs.Legal.{IsUnheld, find_made}
-use Rattle.vch_machine.specs.State.{Place, same_place, Living, Claim, Frame, Tasked, Tally, Machine, tasked, seen, living_at, without_place, member_of, alive_of, is_held, is_expected, frame_holds, is_place, is_empty}
+use Rattle.vch_machine.specs.State.{Place, Living, Claim, Frame, Tally, Machine, tasked, seen, living_at, without_place, member_of, alive_of, is_held, is_expected, frame_holds, is_place, is_empty}
 use Rattle.vch_machine.specs.Frames.{closed, with_frame, tallied}
 use Rattle.vch_machine.specs.Leaving.{is_fixed, is_fixed_value, claim_if, more_claims, do_let_go, released, with_answer, one_ask, do_ask, again, do_recheck, made_of}
 use Rattle.vch_legal.specs.Facts.{Fits, spot, spot_fits}
@@ -98,7 +97,7 @@ agreed_at_place : (sc : Scenario) (t : ℕ) (m : Machine) (f : Frame) (c : Claim
 agreed_at_place sc t m f c fits e claim a r =
     let b : spot m c.place ≡ one (is_some (living_at m.live c.place)) (is_fixed m c.place) (frame_holds (Some f) c.place || kept_named m t c.place) (is_place f.receipt c.place || others_expect m t c.place) (claims_before m t c.place ++ (c ∷ claims_behind m t c.place)) = claimed_before m t f c e claim in
     let g : Agreed (is_some (living_at m.live c.place)) (is_fixed m c.place) (frame_holds (Some f) c.place || kept_named m t c.place) (is_place f.receipt c.place || others_expect m t c.place) =
-        agreed_free c _ _ _ _ (claims_before m t c.place) (claims_behind m t c.place) a r (fits_of _ (spot m c.place) (sym b) (fits.spots c.place)) in
+    agreed_free c _ _ _ _ (claims_before m t c.place) (claims_behind m t c.place) a r (fits_of _ (spot m c.place) (sym b) (fits.spots c.place)) in
     record { live_now = g.live_now; plain = g.plain; unheld = ap (λ s. s.held) b ∙ g.unheld; unexpected = ap (λ s. s.expected) b ∙ g.unexpected }
 
 -- the values without one that nobody holds or expects

@@ -1,25 +1,22 @@
 -- From what an event does to its own task, to all that every move of a run keeps.
-use Rattle.std.proofs.Common.{◌≡◌, ◌≢◌, ℕ, zero, suc, ◌+◌, ◌-◌, ◌<◌, ◌≤◌, Bool, List, [], ◌∷◌, refl, true, false, not, ◌&&◌, ◌||◌, arith, sym, ap, ◌∙◌, subst, length, Some, None, Option}
-use Rattle.std.specs.Prelude.{if◌then◌else◌, ◌==◌, nat_lt, is_some}
+use Rattle.std.proofs.Common.{◌≡◌, ◌≢◌, ℕ, ◌+◌, ◌-◌, ◌≤◌, Bool, List, refl, true, false, ◌&&◌, ◌||◌, arith, sym, ap, ◌∙◌, subst, Some, None, Option}
+use Rattle.std.specs.Prelude.{if◌then◌else◌, ◌==◌}
 use Rattle.std.specs.List.{list_any}
 use Rattle.vch_base.specs.declared.key.Key.{Key}
 use Rattle.vch_base.specs.Keys.{number_of}
 use Rattle.vch_model.specs.declared.call.Call.{Call}
 use Rattle.vch_model.specs.declared.call.Call.TheVariants as calls
-use Rattle.vch_model.specs.declared.entry.Entry.{Entry}
-use Rattle.vch_model.specs.declared.entry.Entry.TheVariants as entries
 use Rattle.vch_model.specs.declared.lists.Scenario.{Scenario}
 use Rattle.vch_model.specs.Voucher.{Voucher}
 use Rattle.vch_model.specs.Store as store
 use Rattle.vch_model.specs.Store.{Member, voucher_of}
-use Rattle.vch_model.specs.Lines.{calls_in, phases_in, is_task, lines_until}
-use Rattle.vch_machine.specs.State.{Handles, of_key, with_key, Place, same_place, Living, Named, Message, Claim, Frame, Tasked, Machine, idle, tasked, seen, valued, member_of, is_handle, has_place, option_has, frame_holds, task_holds, is_held, is_expected, is_place, frame_expects}
+use Rattle.vch_model.specs.Lines.{calls_in, phases_in, lines_until}
+use Rattle.vch_machine.specs.State.{Handles, of_key, with_key, Place, same_place, Living, Named, Message, Claim, Frame, Tasked, Machine, tasked, seen, valued, member_of, is_handle, has_place, option_has, frame_holds, task_holds, is_held, is_expected, is_place, frame_expects}
 use Rattle.vch_machine.specs.Making.{on_claim, on_frame}
 use Rattle.vch_machine.specs.Next.{nth_call}
-use Rattle.vch_machine.proofs.Others.{Leaves, still, still_claim}
-use Rattle.vch_legal.specs.Facts.{Fits, bit}
+use Rattle.vch_machine.proofs.Others.{Leaves, still_claim}
+use Rattle.vch_legal.specs.Facts.{bit}
 use Rattle.vch_legal.specs.Tie.{Forms, FormsCreate, FormsSend, FrameForms, IsForming, is_answering, is_open, IsOpen, TaskStands, map_with, place_with, keys_with}
-use Rattle.vch_legal.proofs.EventSpots.{cases_bool}
 use Rattle.vch_legal.proofs.SeenSame.{AgreeBut, voucher_same}
 use Rattle.vch_legal.proofs.SeenTasks.{member_seen, none_at}
 use Rattle.vch_legal.proofs.Values.{of_with}

@@ -1,6 +1,6 @@
 -- What the next key of a call is asked for, and what its answer does to what the call has formed.
-use Rattle.std.proofs.Common.{◌≡◌, ℕ, ◌+◌, ◌-◌, Bool, List, [], ◌∷◌, ◌++◌, refl, true, false, not, ◌&&◌, ◌||◌, sym, ap, ◌∙◌, subst, length, drop, Some, None, Option, Ok, Err, Result}
-use Rattle.std.specs.Prelude.{if◌then◌else◌, ◌==◌, nat_lt, is_some, ℤ, pos}
+use Rattle.std.proofs.Common.{◌≡◌, ℕ, Bool, List, [], ◌∷◌, refl, true, false, ◌||◌, sym, ap, ◌∙◌, subst, length, drop, Some, Option, Ok, Err, Result}
+use Rattle.std.specs.Prelude.{if◌then◌else◌, nat_lt, ℤ, pos}
 use Rattle.vch_base.specs.declared.key.Key.{Key}
 use Rattle.vch_base.specs.declared.kind.Kind.{Kind}
 use Rattle.vch_base.specs.declared.kind.Kind.TheVariants as kinds
@@ -12,8 +12,7 @@ use Rattle.vch_model.specs.declared.call.Call.{Call}
 use Rattle.vch_model.specs.declared.call.Call.TheVariants as calls
 use Rattle.vch_model.specs.declared.lists.Scenario.{Scenario}
 use Rattle.vch_model.specs.Voucher.{Voucher, set_at}
-use Rattle.vch_model.specs.Voucher as voucher
-use Rattle.vch_model.specs.Store.{Member, member, voucher_of}
+use Rattle.vch_model.specs.Store.{member}
 use Rattle.vch_model.specs.Transfer.{received_value, before, after}
 use Rattle.vch_model.specs.Legal.{asks}
 use Rattle.vch_machine.specs.State.{Handles, of_key, Living, Frame, Machine, tasked, seen, value_at, valued, member_of, is_empty}
@@ -72,8 +71,14 @@ send_goes sc t m f v to moving name id [] a e forms h = cc
 send_goes sc t m f v to moving name id (k ∷ ks) a e forms h =
     subst (λ (x : Asked). GoesOn sc t m f v (calls.Send to moving name id) x.key x.reply) (some_asked _ a h)
     (subst (λ (gs : List Key). FormsSend sc (seen_names m.live (tasked m t).names) t to name (drop 1 gs) (set_at k (mapped (sent t) (value_at m.live k (of_key k v))) (valued m.live v))) (sym e)
-    (record { to_task = forms.to_task; is_named = forms.is_named; voucher = forms.voucher; known = forms.known;
-      made = transfer_made m.live (sent t) k ks v (before t forms.voucher) forms.made; asked = λ _. forms.asked refl }))
+    (record {
+      to_task = forms.to_task;
+      is_named = forms.is_named;
+      voucher = forms.voucher;
+      known = forms.known;
+      made = transfer_made m.live (sent t) k ks v (before t forms.voucher) forms.made;
+      asked = λ _. forms.asked refl;
+    }))
 
 recv_goes : (sc : Scenario) (t : ℕ) (m : Machine) (f : Frame) (v : Handles) (ks : List Key) (a : Asked) → f.keys ≡ ks
     → FormsRecv sc (member_of m.live (tasked m t)).queue t ks (valued m.live v) → asked_transfer m.live (received_value sc t) ks v ≡ Some a → GoesOn sc t m f v calls.Recv a.key a.reply

@@ -1,7 +1,7 @@
 -- Make and Refer, to their own task: a Made entry may follow where the value is not live, and what is formed goes on.
 use Rattle.std.proofs.Common.{◌≡◌, ℕ, ◌+◌, ◌-◌, ◌<◌, Bool, List, [], ◌∷◌, ◌++◌, refl, true, false, not, ◌&&◌, ◌||◌, arith, sym, ap, ◌∙◌, subst, length, map, Some, None, Option, Ok, Err, Result}
 use Rattle.std.proofs.lemmas.List.{length-map}
-use Rattle.std.specs.Prelude.{if◌then◌else◌, ◌==◌, nat_lt, is_some, ℤ, pos}
+use Rattle.std.specs.Prelude.{if◌then◌else◌, ◌==◌, nat_lt, is_some, ℤ}
 use Rattle.std.specs.List.{list_any, flat_map}
 use Rattle.vch_base.specs.declared.key.Key.{Key}
 use Rattle.vch_base.specs.declared.key.Key.TheVariants as keys
@@ -16,9 +16,9 @@ use Rattle.vch_model.specs.Voucher.{Voucher, set_at}
 use Rattle.vch_model.specs.Store as store
 use Rattle.vch_model.specs.Store.{Member}
 use Rattle.vch_model.specs.After.{store_after}
-use Rattle.vch_machine.specs.State.{Handles, of_key, with_key, Place, same_place, Living, Frame, Tasked, Machine, tasked, seen, living_at, handle_of, value_of, value_at, valued, alive_of, member_of, is_held, is_expected, is_empty}
-use Rattle.vch_machine.specs.Frames.{closed, with_frame, tallied, refuse}
-use Rattle.vch_machine.specs.Making.{Asked, asked_by, moved, fresh_handle, minted, race_claim, back_claim, on_claim, on_task, on_claims, given_receipt, made_at, make_done, make_asked, do_make, one_refer, do_refer}
+use Rattle.vch_machine.specs.State.{Handles, of_key, with_key, Place, same_place, Living, Frame, Tasked, Machine, tasked, seen, living_at, handle_of, value_of, value_at, valued, alive_of, member_of, is_held, is_empty}
+use Rattle.vch_machine.specs.Frames.{closed, with_frame, tallied}
+use Rattle.vch_machine.specs.Making.{Asked, asked_by, fresh_handle, minted, race_claim, back_claim, on_claim, on_task, on_claims, given_receipt, made_at, make_done, make_asked, do_make, one_refer, do_refer}
 use Rattle.vch_machine.specs.Naming.{item}
 use Rattle.vch_machine.specs.Next.{nth_call, call_next}
 use Rattle.vch_legal.specs.Facts.{Fits, ValueFits}
@@ -30,7 +30,7 @@ use Rattle.vch_legal.proofs.MakeSpots.{fresh_dead}
 use Rattle.vch_legal.proofs.Places.{same_key, same_place_refl}
 use Rattle.vch_legal.proofs.PutSpots.{known_to}
 use Rattle.vch_legal.proofs.SeenHeld.{values_eq, none_hold}
-use Rattle.vch_legal.proofs.SeenSame.{AgreeBut, members_same, member_same, voucher_same}
+use Rattle.vch_legal.proofs.SeenSame.{AgreeBut, members_same, member_same}
 use Rattle.vch_legal.proofs.SeenTasks.{seen_frame, seen_claims, own_task, claims_task, store_with, none_at}
 use Rattle.vch_legal.proofs.SeenValues.{AtMostOnce, once_tail, at_most_once, found_behind, value_dead}
 use Rattle.vch_legal.proofs.HeldLive.{dead_unheld, dead_unexpected}
@@ -38,7 +38,7 @@ use Rattle.vch_legal.proofs.Follows.{Follows, kept_eq}
 use Rattle.vch_legal.proofs.Lifts.{Lives, forms_kept, map_lives}
 use Rattle.vch_legal.proofs.Standing.{Step}
 use Rattle.vch_legal.proofs.OwnSteps.{framed_step, closed_forming, closed_open, closed_answers}
-use Rattle.vch_legal.proofs.LeaveSteps.{tallied_step, closed_step, open_step}
+use Rattle.vch_legal.proofs.LeaveSteps.{tallied_step, open_step}
 use Rattle.vch_legal.proofs.Nexts.{at_keys, forms_at, forms_in, moved_is}
 use Rattle.vch_legal.proofs.Refusals.{Calling, calling_answers}
 use Rattle.vch_legal.proofs.MakeGoes.{GoesOn, asked_goes, make_wants}

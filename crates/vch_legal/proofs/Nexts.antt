@@ -1,5 +1,5 @@
 -- What a call has come to where one of its own events is next.
-use Rattle.std.proofs.Common.{◌≡◌, ℕ, ◌+◌, Bool, List, [], ◌∷◌, refl, true, false, not, ◌&&◌, arith, sym, ap, ◌∙◌, subst, drop, length, Some, None, Option}
+use Rattle.std.proofs.Common.{◌≡◌, ℕ, ◌+◌, Bool, List, [], ◌∷◌, refl, true, false, not, ◌&&◌, sym, ◌∙◌, subst, drop, length, Some, None, Option}
 use Rattle.std.specs.Prelude.{is_some, if◌then◌else◌, ◌==◌}
 use Rattle.vch_base.specs.declared.key.Key.{Key}
 use Rattle.vch_base.specs.declared.kind.Kind.{Kind}

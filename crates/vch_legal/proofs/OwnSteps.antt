@@ -1,6 +1,6 @@
 -- What an event does to its own task: it changes the frame, or it answers the call.
-use Rattle.std.proofs.Common.{◌≡◌, ℕ, ◌+◌, ◌-◌, ◌<◌, ◌≤◌, Bool, List, [], ◌∷◌, refl, true, false, not, ◌&&◌, ◌||◌, arith, sym, ap, ◌∙◌, subst, length, Some, None, Option}
-use Rattle.std.specs.Prelude.{if◌then◌else◌, ◌==◌, nat_lt, is_some}
+use Rattle.std.proofs.Common.{◌≡◌, ℕ, ◌+◌, ◌<◌, ◌≤◌, Bool, List, ◌∷◌, refl, true, false, ◌||◌, arith, sym, ap, ◌∙◌, subst, Some, None, Option}
+use Rattle.std.specs.Prelude.{if◌then◌else◌, ◌==◌, is_some}
 use Rattle.vch_model.specs.declared.call.Call.{Call}
 use Rattle.vch_model.specs.declared.call.Line.{Line}
 use Rattle.vch_model.specs.declared.entry.Entry.TheVariants as entries
@@ -9,9 +9,9 @@ use Rattle.vch_model.specs.declared.lists.Scenario.{Scenario}
 use Rattle.vch_model.specs.Store.{Member}
 use Rattle.vch_model.specs.Words.{word_of}
 use Rattle.vch_model.specs.After.{is_want, store_after_call, store_after_line}
-use Rattle.vch_model.specs.Lines.{calls_in, phases_in, is_task, lines_until, line_at}
+use Rattle.vch_model.specs.Lines.{calls_in, phases_in, lines_until, line_at}
 use Rattle.vch_model.specs.Legal.{IsAnswer, Answers}
-use Rattle.vch_machine.specs.State.{Living, Handles, Frame, Tasked, Machine, idle, tasked, seen, member_of}
+use Rattle.vch_machine.specs.State.{Living, Handles, Frame, Tasked, Machine, tasked, seen, member_of}
 use Rattle.vch_machine.specs.Frames.{closed}
 use Rattle.vch_machine.specs.Next.{nth_call, call_in}
 use Rattle.vch_legal.specs.Facts.{bit}
@@ -101,9 +101,11 @@ call_follows sc t m n k call reply s number high there past store answer = by_li
     by_line : LineFor sc t k call → Follows sc t m n
     by_line (l, e, g) =
         Follows.Adds (entries.Call t k (word_of call) reply) past
-        (store ∙ ap (λ x. if is_want reply then seen m else x) (ap (λ c. store_after_call sc (seen m) t c) (sym g) ∙ ap (λ o. store_after_line sc (seen m) t o) (sym e)))
-        (number, subst (λ (o : Option (ℕ × Line)). Answers sc m.past (seen m) t o (word_of call) reply) (sym e)
-        (phase_of_line sc t k (phases_in m.past) l e low high, ap word_of (sym g), subst (λ (c : Call). IsAnswer sc m.past (seen m) t c reply) (sym g) answer))
+        (store ∙ ap (λ x. if is_want reply then seen m else x) (ap (λ c. store_after_call sc (seen m) t c) (sym g) ∙ ap (λ o. store_after_line sc (seen m) t o) (sym e))) (
+          number,
+          subst (λ (o : Option (ℕ × Line)). Answers sc m.past (seen m) t o (word_of call) reply) (sym e)
+              (phase_of_line sc t k (phases_in m.past) l e low high, ap word_of (sym g), subst (λ (c : Call). IsAnswer sc m.past (seen m) t c reply) (sym g) answer),
+        )
         refl
       where
         low : lines_until sc (phases_in m.past) t < k

@@ -1,11 +1,11 @@
 -- How many lines a task has in one phase.
-use Rattle.std.proofs.Common.{◌≡◌, ℕ, zero, suc, ◌+◌, ◌-◌, ◌<◌, ◌≤◌, Bool, List, [], ◌∷◌, ◌++◌, refl, true, false, arith, sym, ap, ◌∙◌, subst, length, map, get_or, Some, None, Option}
-use Rattle.std.specs.Prelude.{nat_le, nat_lt, if◌then◌else◌, ◌==◌}
+use Rattle.std.proofs.Common.{◌≡◌, ℕ, suc, ◌+◌, ◌-◌, ◌<◌, ◌≤◌, List, [], ◌∷◌, ◌++◌, refl, true, false, arith, sym, ap, ◌∙◌, length, map, get_or}
+use Rattle.std.specs.Prelude.{nat_le, ◌==◌}
 use Rattle.std.specs.List.{filter}
 use Rattle.vch_model.specs.declared.call.Line.{Line}
 use Rattle.vch_model.specs.declared.lists.Scenario.{Scenario}
-use Rattle.vch_model.specs.Lines.{lines_from, lines_of, lines_until}
-use Rattle.vch_legal.specs.Facts.{bit, times}
+use Rattle.vch_model.specs.Lines.{lines_from, lines_until}
+use Rattle.vch_legal.specs.Facts.{times}
 use Rattle.vch_legal.proofs.EventSpots.{cases_bool}
 
 -- the lines of a task among some lines

@@ -1,6 +1,6 @@
 -- The lines of a task stand in the order of their phases.
-use Rattle.std.proofs.Common.{◌≡◌, ◌⊎◌, ℕ, zero, suc, ◌+◌, ◌-◌, ◌<◌, ◌≤◌, Bool, List, [], ◌∷◌, ◌++◌, refl, true, false, arith, sym, ap, ◌∙◌, subst, length, map, Some, None, Option}
-use Rattle.std.specs.Prelude.{nat_le, nat_lt, slice_get, ◌==◌, cond}
+use Rattle.std.proofs.Common.{◌≡◌, ℕ, zero, suc, ◌+◌, ◌-◌, ◌<◌, ◌≤◌, Bool, List, [], ◌∷◌, ◌++◌, refl, true, false, arith, ap, subst, length, map, Some}
+use Rattle.std.specs.Prelude.{nat_le, slice_get, ◌==◌}
 use Rattle.std.specs.List.{filter}
 use Rattle.vch_model.specs.declared.call.Line.{Line}
 use Rattle.vch_model.specs.declared.lists.Scenario.{Scenario}

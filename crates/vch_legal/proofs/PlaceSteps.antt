@@ -1,7 +1,7 @@
 -- Place, to its own task: the reply is the store's, or a want of memory where that may be.
-use Rattle.std.proofs.Common.{◌≡◌, ◌⊎◌, inl, inr, ℕ, ◌+◌, ◌-◌, ◌<◌, Bool, List, [], ◌∷◌, ◌++◌, refl, true, false, not, ◌&&◌, ◌||◌, arith, sym, ap, ◌∙◌, subst, length, drop, map, Some, None, Option, Ok, Err, Result}
-use Rattle.std.proofs.lemmas.List.{get_or-set_same, length-set}
-use Rattle.std.specs.Prelude.{if◌then◌else◌, ◌==◌, nat_lt, is_some, ℤ, pos}
+use Rattle.std.proofs.Common.{◌≡◌, inl, ℕ, ◌-◌, ◌<◌, Bool, List, [], ◌∷◌, ◌++◌, refl, true, false, sym, ap, ◌∙◌, subst, length, drop, Some, None, Option, Ok}
+use Rattle.std.proofs.lemmas.List.{length-set}
+use Rattle.std.specs.Prelude.{if◌then◌else◌}
 use Rattle.vch_base.specs.declared.key.Key.{Key}
 use Rattle.vch_base.specs.declared.kind.Kind.{Kind}
 use Rattle.vch_base.specs.declared.kind.Kind.TheVariants as kinds
@@ -12,20 +12,20 @@ use Rattle.vch_model.specs.declared.entry.Entry.TheVariants as entries
 use Rattle.vch_model.specs.declared.entry.Reply.{Reply}
 use Rattle.vch_model.specs.declared.entry.Reply.TheVariants as replies
 use Rattle.vch_model.specs.declared.lists.Scenario.{Scenario}
-use Rattle.vch_model.specs.Voucher.{Voucher, nothing}
-use Rattle.vch_model.specs.Store.{Store, Member, member, voucher_of, given}
+use Rattle.vch_model.specs.Voucher.{nothing}
+use Rattle.vch_model.specs.Store.{member, voucher_of}
 use Rattle.vch_model.specs.Eval.{create, eval_all}
 use Rattle.vch_model.specs.Words.{word_of}
-use Rattle.vch_model.specs.After.{is_want, placed, sent, store_after_call}
+use Rattle.vch_model.specs.After.{is_want, placed, store_after_call}
 use Rattle.vch_model.specs.Replies.{created}
 use Rattle.vch_model.specs.Legal.{IsAnswer, option_all_live, voucher_made, reaches}
-use Rattle.vch_machine.specs.State.{Handles, Place, Frame, Tasked, Machine, Message, idle, tasked, with_tasked, seen, valued, member_of, is_empty}
-use Rattle.vch_machine.specs.Frames.{closed, with_frame, replied}
+use Rattle.vch_machine.specs.State.{Handles, Place, Frame, Tasked, Machine, tasked, with_tasked, seen, valued}
+use Rattle.vch_machine.specs.Frames.{with_frame, replied}
 use Rattle.vch_machine.specs.Naming.{name_of, name_for, with_name, doubled}
-use Rattle.vch_machine.specs.Next.{known_name, first_next, call_next}
+use Rattle.vch_machine.specs.Next.{first_next, call_next}
 use Rattle.vch_machine.specs.Placing.{ended, place_create, do_place}
 use Rattle.vch_legal.specs.Facts.{Fits}
-use Rattle.vch_legal.specs.Tie.{KeysFit, FormsCreate, Forms}
+use Rattle.vch_legal.specs.Tie.{KeysFit, FormsCreate}
 use Rattle.vch_legal.proofs.FrameSpots.{task_in_range}
 use Rattle.vch_legal.proofs.OwnTask.{named_begun}
 use Rattle.vch_legal.proofs.SeenNames.{LiveAll, AllLive}
@@ -60,8 +60,10 @@ create_place sc t m f v bytes fits c forming made =
     (subst (λ i. t - 1 < i) (sym (length-set m.tasks (t - 1) (with_name (tasked m t) v (name_of (tasked m t).names v)))) l)
     (ap (λ (x : Tasked). x.begun) (own_task m t (with_name (tasked m t) v (name_of (tasked m t).names v)) l) ∙ named_begun (tasked m t) v (name_of (tasked m t).names v))
     (seen_given m t v fits.different names live ∙ sym (ap (placed (seen m) t) made))
-    (inl (ap replies.Created (sym (gives_seen m t v fits.different names live)) ∙ sym (ap (created (seen m) t) made),
-    ap (λ x. option_all_live (seen m) (voucher_made x)) made ∙ voucher_lives sc m v fits live))
+    (inl (
+      ap replies.Created (sym (gives_seen m t v fits.different names live)) ∙ sym (ap (created (seen m) t) made),
+      ap (λ x. option_all_live (seen m) (voucher_made x)) made ∙ voucher_lives sc m v fits live,
+    ))
   where
     mid : Machine
     mid = with_tasked m t (with_name (tasked m t) v (name_of (tasked m t).names v))

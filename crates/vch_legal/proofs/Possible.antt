@@ -1,6 +1,5 @@
 -- Where a task has a next event, it can happen.
-use Rattle.std.proofs.Common.{◌≡◌, ℕ, zero, suc, ◌+◌, ◌-◌, ◌<◌, ◌≤◌, Bool, List, [], ◌∷◌, refl, true, false, not, ◌&&◌, ◌||◌, arith, sym, ap, ◌∙◌, subst, length, drop, Some, None, Option}
-use Rattle.std.proofs.lemmas.Option.{slice_get-get_or}
+use Rattle.std.proofs.Common.{◌≡◌, ℕ, zero, suc, ◌+◌, ◌-◌, ◌<◌, ◌≤◌, Bool, List, [], ◌∷◌, refl, true, false, ◌&&◌, ◌||◌, arith, sym, ap, ◌∙◌, subst, length, drop, Some, None, Option}
 use Rattle.std.specs.Prelude.{if◌then◌else◌, ◌==◌, nat_lt, nat_le, is_some, slice_get}
 use Rattle.std.specs.List.{filter}
 use Rattle.vch_base.specs.declared.key.Key.{Key}
@@ -16,16 +15,16 @@ use Rattle.vch_model.specs.declared.lists.Scenario.{Scenario}
 use Rattle.vch_model.specs.Voucher.{Voucher}
 use Rattle.vch_model.specs.Store.{Member}
 use Rattle.vch_model.specs.Legal.{asks}
-use Rattle.vch_model.specs.Lines.{is_task, phases_in, lines_of, line_at, lines_until}
-use Rattle.vch_machine.specs.State.{Handles, Place, Living, Named, Claim, Frame, Machine, Message, tasked, member_of, is_empty}
+use Rattle.vch_model.specs.Lines.{is_task, phases_in, lines_of, lines_until}
+use Rattle.vch_machine.specs.State.{Handles, Place, Living, Named, Claim, Frame, Machine, tasked, member_of, is_empty}
 use Rattle.vch_machine.specs.Beginning.{begin_line, is_full}
 use Rattle.vch_machine.specs.Events.{event, event_of, frame_event, on_formed, on_place, on_lets, on_the_claim}
 use Rattle.vch_machine.specs.Leaving.{do_let_go, do_ask, do_recheck}
-use Rattle.vch_machine.specs.Making.{Asked, asked_by, asked_first, asked_record, asked_transfer, make_asked, head_key}
-use Rattle.vch_machine.specs.Next.{next_kind, task_next, nth_call, call_in, known_name, first_next, claim_next, call_next, formed_next, lets_next, unclaimed_next, frame_next}
+use Rattle.vch_machine.specs.Making.{Asked, asked_by, asked_first, asked_record, asked_transfer, make_asked}
+use Rattle.vch_machine.specs.Next.{next_kind, task_next, nth_call, call_in, known_name, first_next, call_next, formed_next, lets_next, unclaimed_next, frame_next}
 use Rattle.vch_machine.specs.Placing.{do_place}
-use Rattle.vch_legal.specs.Facts.{Fits, OptionFits, FrameFits}
-use Rattle.vch_legal.specs.Tie.{Forms, place_with, keys_with, map_with, FrameForms, IsForming, Stands}
+use Rattle.vch_legal.specs.Facts.{Fits, OptionFits}
+use Rattle.vch_legal.specs.Tie.{Forms, FrameForms, Stands}
 use Rattle.vch_legal.proofs.EventSpots.{cases_bool}
 use Rattle.vch_legal.proofs.OwnSteps.{Before}
 use Rattle.vch_legal.proofs.LeaveSteps.{forming_of}

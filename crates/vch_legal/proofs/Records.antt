@@ -1,21 +1,19 @@
 -- One record in the machine, on handles, and in the sequential store, on values.
-use Rattle.std.proofs.Common.{◌≡◌, ℕ, ◌+◌, Bool, List, [], ◌∷◌, ◌++◌, refl, true, false, not, ◌&&◌, ◌||◌, arith, sym, ap, ◌∙◌, subst, length, map, Some, None, Option, Ok, Err, Result}
+use Rattle.std.proofs.Common.{◌≡◌, ℕ, Bool, List, [], ◌∷◌, refl, true, false, not, ◌&&◌, ◌||◌, arith, sym, ap, ◌∙◌, length, map, Some, None, Option, Ok, Err, Result}
 use Rattle.std.specs.Prelude.{if◌then◌else◌, ◌==◌, nat_lt, is_some, ℤ, pos}
 use Rattle.vch_base.specs.declared.key.Key.{Key}
 use Rattle.vch_base.specs.declared.key.Key.TheVariants as keys
 use Rattle.vch_base.specs.Keys.{key_of}
-use Rattle.vch_base.specs.declared.value.Value.{Value}
 use Rattle.vch_recipe.specs.declared.recipe.Recipe.{Recipe}
 use Rattle.vch_model.specs.Voucher.{Voucher, set_at, equal_options}
 use Rattle.vch_model.specs.Voucher as voucher
-use Rattle.vch_model.specs.Store as store
 use Rattle.vch_model.specs.Store.{voucher_of}
 use Rattle.vch_model.specs.Eval.{answer_to, put_answer, previous_value, ask_at, loses, takes, each_key, at_key, changes, redeemed, carried, with_previous, eval}
 use Rattle.vch_model.specs.Eval as evals
 use Rattle.vch_model.specs.Legal.{asks}
 use Rattle.vch_machine.specs.State.{Handles, of_key, with_key, Living, Named, value_at, valued, valued_option, named_of}
 use Rattle.vch_machine.specs.Making.{or_map, previous_of}
-use Rattle.vch_machine.specs.Naming.{same_handle, handles_of, item}
+use Rattle.vch_machine.specs.Naming.{same_handle, handles_of}
 use Rattle.vch_machine.specs.Next.{known_name}
 use Rattle.vch_machine.specs.Working.{Worked, copies, removes, changed, changed_at, changed_keys, copied, worked, worked_with}
 use Rattle.vch_legal.specs.Facts.{Different}
@@ -281,9 +279,10 @@ all_is_none n e = let k : n ≡ 4294967295 = number n 4294967295 e in rw k refl
 -- a record that redeems all keys: its command and its content
 pub redeems : (names : ℕ → Option Voucher) (r : Recipe) → asks names r ≡ true → (r.key == 4294967295) ≡ true → ((r.command == 10) ≡ true) × ((length r.content == 0) ≡ true)
 redeems names r it_asks all =
-    let m : managed r ≡ true = asks_managed names r it_asks in let n : is_some (key_of r.key) ≡ false = all_is_none r.key all in
-    (ten (nat_lt 5 r.command) (is_some (key_of r.key)) (r.command == 10) (r.key == 4294967295) (length r.content == 0) n m,
-    bare (nat_lt 5 r.command) (is_some (key_of r.key)) (r.command == 10) (r.key == 4294967295) (length r.content == 0) n m)
+    let m : managed r ≡ true = asks_managed names r it_asks in let n : is_some (key_of r.key) ≡ false = all_is_none r.key all in (
+      ten (nat_lt 5 r.command) (is_some (key_of r.key)) (r.command == 10) (r.key == 4294967295) (length r.content == 0) n m,
+      bare (nat_lt 5 r.command) (is_some (key_of r.key)) (r.command == 10) (r.key == 4294967295) (length r.content == 0) n m,
+    )
   where
     ten : (a b c d f : Bool) → b ≡ false → ((a && b) || (c && (d && f))) ≡ true → c ≡ true
     ten a b c d f h e = grind arith

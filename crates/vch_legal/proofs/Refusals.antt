@@ -1,26 +1,23 @@
 -- A call with a frame is refused: by the store's code, or by want of memory where that may be.
-use Rattle.std.proofs.Common.{◌≡◌, ◌⊎◌, inl, inr, ℕ, ◌+◌, ◌-◌, Bool, List, [], ◌∷◌, ◌++◌, refl, true, false, not, ◌&&◌, ◌||◌, arith, sym, ap, ◌∙◌, subst, length, map, Some, None, Option, Ok, Err, Result}
+use Rattle.std.proofs.Common.{◌≡◌, inl, inr, ℕ, Bool, List, [], ◌∷◌, ◌++◌, refl, true, false, not, ◌&&◌, ◌||◌, arith, sym, ap, ◌∙◌, subst, length, Some, None, Option, Err, Result}
 use Rattle.std.specs.Prelude.{if◌then◌else◌, ◌==◌, nat_lt, nat_le, is_some, ℤ, pos}
-use Rattle.vch_base.specs.declared.key.Key.{Key}
 use Rattle.vch_model.specs.declared.call.Call.{Call}
 use Rattle.vch_model.specs.declared.call.Call.TheVariants as calls
-use Rattle.vch_model.specs.declared.entry.Entry.{Entry}
 use Rattle.vch_model.specs.declared.entry.Entry.TheVariants as entries
-use Rattle.vch_model.specs.declared.entry.Reply.{Reply}
 use Rattle.vch_model.specs.declared.lists.Scenario.{Scenario}
 use Rattle.vch_model.specs.Voucher.{Voucher, nothing}
-use Rattle.vch_model.specs.Store.{Store, Member, Message, member, voucher_of}
+use Rattle.vch_model.specs.Store.{Member, Message, member, voucher_of}
 use Rattle.vch_model.specs.Eval.{create, eval_all, made_of}
 use Rattle.vch_model.specs.Words.{word_of}
 use Rattle.vch_model.specs.After.{is_want, placed, store_after_call}
 use Rattle.vch_model.specs.Lines.{is_task}
-use Rattle.vch_model.specs.Replies.{refused, created, reply_to}
-use Rattle.vch_model.specs.Legal.{IsAnswer, option_all_live, voucher_made, voucher_given, may_want, may_send, first_has_voucher, reaches}
-use Rattle.vch_machine.specs.State.{Handles, Frame, Tasked, Machine, tasked, seen, member_of, named_of}
+use Rattle.vch_model.specs.Replies.{refused, created}
+use Rattle.vch_model.specs.Legal.{IsAnswer, option_all_live, voucher_made, may_want, may_send, first_has_voucher, reaches}
+use Rattle.vch_machine.specs.State.{Handles, Frame, Tasked, Machine, tasked, seen, member_of}
 use Rattle.vch_machine.specs.Frames.{closed, with_frame, refuse}
 use Rattle.vch_machine.specs.Naming.{option_places}
 use Rattle.vch_machine.specs.Next.{nth_call}
-use Rattle.vch_legal.specs.Tie.{FormsCreate, FormsSend, FormsRecv, first_in, is_answering}
+use Rattle.vch_legal.specs.Tie.{first_in, is_answering}
 use Rattle.vch_legal.proofs.FrameSpots.{task_in_range}
 use Rattle.vch_legal.proofs.SeenTasks.{member_seen, seen_frame, own_task}
 use Rattle.vch_legal.proofs.Records.{seen_names}

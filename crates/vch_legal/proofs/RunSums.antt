@@ -1,5 +1,5 @@
 -- The sums over a history at every moment of every run.
-use Rattle.std.proofs.Common.{◌≡◌, ℕ, ◌+◌, List, length, Some}
+use Rattle.std.proofs.Common.{◌≡◌, ◌+◌, List, length, Some}
 use Rattle.vch_model.specs.declared.lists.Scenario.{Scenario}
 use Rattle.vch_model.specs.Totals.{held, out, ledger}
 use Rattle.vch_machine.specs.State.{Machine}

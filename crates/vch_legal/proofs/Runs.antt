@@ -1,22 +1,21 @@
 -- All stands at the start, through every move, and so along every run, whose history is legal, and whole at its end.
-use Rattle.std.proofs.Common.{◌≡◌, ℕ, zero, suc, ◌+◌, ◌-◌, ◌<◌, ◌≤◌, Bool, List, [], ◌∷◌, ◌++◌, refl, true, false, not, ◌&&◌, arith, sym, ap, ◌∙◌, subst, length, map, reverse, get_or, Some, None, Option}
+use Rattle.std.proofs.Common.{◌≡◌, ℕ, zero, suc, ◌+◌, ◌-◌, ◌<◌, ◌≤◌, Bool, List, [], ◌∷◌, refl, true, false, not, ◌&&◌, arith, sym, ap, subst, length, map, reverse, get_or, Some, None, Option}
 use Rattle.std.proofs.lemmas.List.{reverse-reverse}
-use Rattle.std.specs.Prelude.{if◌then◌else◌, nat_lt, is_some}
+use Rattle.std.specs.Prelude.{if◌then◌else◌, nat_lt}
 use Rattle.vch_base.specs.declared.flags.Flags.{Flags}
 use Rattle.vch_model.specs.declared.entry.Entry.{Entry}
 use Rattle.vch_model.specs.declared.entry.Entry.TheVariants as entries
 use Rattle.vch_model.specs.declared.lists.Scenario.{Scenario}
 use Rattle.vch_model.specs.Store as store
 use Rattle.vch_model.specs.Store.{Store, Member}
-use Rattle.vch_model.specs.After.{store_of}
 use Rattle.vch_model.specs.Lines.{calls_in, phases_in, is_task, lines_of, lines_until}
-use Rattle.vch_model.specs.Legal.{CanFollow, Legal, LegalPast, Ended, Whole, all_held}
-use Rattle.vch_machine.specs.State.{Tasked, Machine, idle, tasked, start, seen, member_of, default_living, is_empty}
+use Rattle.vch_model.specs.Legal.{Legal, LegalPast, Ended, Whole, all_held}
+use Rattle.vch_machine.specs.State.{Machine, idle, tasked, start, member_of, default_living, is_empty}
 use Rattle.vch_machine.specs.Events.{phase_event, ready, numbers}
 use Rattle.vch_machine.specs.Frames.{noted}
-use Rattle.vch_machine.specs.Schedules.{Move, happens, run, run_from_start, has_ended, past_of, history_of}
+use Rattle.vch_machine.specs.Schedules.{Move, happens, run, run_from_start, has_ended}
 use Rattle.vch_legal.specs.Facts.{Fits, bit}
-use Rattle.vch_legal.specs.Tie.{IsForming, is_answering, IsOpen, TaskStands, any_frame, Stands}
+use Rattle.vch_legal.specs.Tie.{is_answering, TaskStands, any_frame, Stands}
 use Rattle.vch_legal.proofs.Keeps.{start_keeps, phase_keeps}
 use Rattle.vch_legal.proofs.PhaseLines.{all_lines, no_lines, more_lines}
 use Rattle.vch_legal.proofs.Follows.{entry_legal}
@@ -81,8 +80,11 @@ noted_stands sc m s e more fits = record {
   tasks = λ t task. over t task (s.tasks t task) (answered t task);
   phases = let b : phases_in m.past < length sc.phases = below (phases_in m.past) (length sc.phases) more in omega arith;
   rest = λ _. all_rest sc m s e;
-  legal = entry_legal sc m entries.Phase s.same_store (below _ _ more, rest_all_held sc m s.fits (all_rest sc m s e),
-      each_task (length sc.flags) _ (λ t a b. rest_answered sc m t (s.tasks t (task_of sc t a b)) (rests_of sc m s e t a b))) s.legal;
+  legal = entry_legal sc m entries.Phase s.same_store (
+    below _ _ more,
+    rest_all_held sc m s.fits (all_rest sc m s e),
+    each_task (length sc.flags) _ (λ t a b. rest_answered sc m t (s.tasks t (task_of sc t a b)) (rests_of sc m s e t a b)),
+  ) s.legal;
 }
   where
     below : (a b : ℕ) → nat_lt a b ≡ true → a < b

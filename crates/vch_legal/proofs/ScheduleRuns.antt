@@ -1,19 +1,17 @@
 -- The moves of the schedules can happen, one after the other.
-use Rattle.std.proofs.Common.{◌≡◌, ℕ, zero, suc, ◌+◌, ◌-◌, ◌%◌, ◌<◌, ◌≤◌, Bool, List, [], ◌∷◌, ◌++◌, refl, true, false, not, ◌&&◌, ◌||◌, arith, sym, ap, ◌∙◌, subst, length, get_or, Some, None, Option}
+use Rattle.std.proofs.Common.{◌≡◌, ℕ, zero, suc, ◌+◌, ◌%◌, ◌<◌, ◌≤◌, Bool, List, [], ◌∷◌, refl, true, false, not, arith, sym, ap, subst, length, get_or, Some, None, Option}
 use Rattle.std.proofs.Math.Nat.{mod-lt}
 use Rattle.std.specs.Prelude.{if◌then◌else◌, ◌==◌, nat_lt, is_some, slice_index_or}
 use Rattle.std.specs.List.{count_by, AllByRecursion}
 use Rattle.vch_base.specs.declared.kind.Kind.TheVariants as kinds
 use Rattle.vch_model.specs.declared.call.Line.{Line}
-use Rattle.vch_model.specs.declared.entry.Entry.TheVariants as entries
 use Rattle.vch_model.specs.declared.lists.Scenario.{Scenario}
 use Rattle.vch_model.specs.Lines.{is_task, calls_in, phases_in, lines_until}
 use Rattle.vch_model.specs.Scenarios.{IsIn, IsLimited}
 use Rattle.vch_machine.specs.State.{Frame, Machine, tasked, start, is_empty}
-use Rattle.vch_machine.specs.Events.{event, phase_event, numbers, ready}
-use Rattle.vch_machine.specs.Frames.{noted}
+use Rattle.vch_machine.specs.Events.{phase_event, numbers, ready}
 use Rattle.vch_machine.specs.Next.{next_kind, task_next}
-use Rattle.vch_machine.specs.Schedules.{Move, happens, run, run_from_start, lowest_open, first_waiting, turn_task, move_of, has_ended, in_turn, next_seed, drawn, picked, seed_after, by_seed}
+use Rattle.vch_machine.specs.Schedules.{Move, happens, run, run_from_start, lowest_open, first_waiting, turn_task, move_of, has_ended, in_turn, drawn, picked, seed_after, by_seed}
 use Rattle.vch_legal.specs.Facts.{bit}
 use Rattle.vch_legal.specs.Tie.{is_answering, Stands}
 use Rattle.vch_legal.proofs.EventSpots.{cases_bool}

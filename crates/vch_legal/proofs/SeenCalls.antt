@@ -1,14 +1,12 @@
 -- What the store sees where a voucher is given to a task or queued, a reference is given up, or a message is taken.
-use Rattle.std.proofs.Common.{◌≡◌, ℕ, ◌+◌, ◌-◌, ◌<◌, Bool, List, [], ◌∷◌, ◌++◌, refl, true, false, not, ◌&&◌, ◌||◌, arith, sym, ap, ◌∙◌, subst, length, map, get_or, Some, None, Option}
-use Rattle.std.proofs.lemmas.List.{get_or-set_same, length-set, length-map, map-append, map-set, set-set}
+use Rattle.std.proofs.Common.{◌≡◌, ℕ, ◌-◌, Bool, List, [], ◌∷◌, ◌++◌, refl, true, false, sym, ap, ◌∙◌, length, map, Some, None, Option}
+use Rattle.std.proofs.lemmas.List.{length-map, map-append, set-set}
 use Rattle.std.specs.Prelude.{if◌then◌else◌, ◌==◌, nat_lt}
-use Rattle.vch_model.specs.declared.lists.Scenario.{Scenario}
-use Rattle.vch_model.specs.Voucher.{Voucher}
 use Rattle.vch_model.specs.Store as store
 use Rattle.vch_model.specs.Store.{Store, Member, nobody, member, set_member, given, gives_name}
 use Rattle.vch_model.specs.After.{queued, let_go, taken_first}
-use Rattle.vch_machine.specs.State.{Handles, Living, Named, Message, Tasked, Machine, idle, tasked, with_tasked, seen, valued, named_of, message_of, member_of}
-use Rattle.vch_machine.specs.Beginning.{enqueued, is_full}
+use Rattle.vch_machine.specs.State.{Handles, Living, Named, Message, Tasked, Machine, tasked, with_tasked, seen, valued, named_of, message_of, member_of}
+use Rattle.vch_machine.specs.Beginning.{enqueued}
 use Rattle.vch_machine.specs.Naming.{name_of, name_for, one_less, with_name}
 use Rattle.vch_legal.specs.Facts.{Different}
 use Rattle.vch_legal.proofs.SeenNames.{LiveAll, AllLive, name_same, given_same}

@@ -1,8 +1,8 @@
 -- What the store sees of the tasks where one of them is replaced.
-use Rattle.std.proofs.Common.{◌≡◌, ℕ, ◌-◌, ◌<◌, Bool, List, [], ◌∷◌, refl, true, false, ◌||◌, arith, sym, ap, ◌∙◌, length, map, get_or, Some, None, Option}
-use Rattle.std.proofs.Math.ListN.{get_or-map, set}
+use Rattle.std.proofs.Common.{◌≡◌, ℕ, ◌-◌, ◌<◌, Bool, List, [], ◌∷◌, refl, false, ◌||◌, arith, ap, length, map, get_or, Option}
+use Rattle.std.proofs.Math.ListN.{get_or-map}
 use Rattle.std.proofs.Math.Seq.{map-set_same}
-use Rattle.std.proofs.lemmas.List.{map-set, set-get_or, get_or-set_same}
+use Rattle.std.proofs.lemmas.List.{map-set, get_or-set_same}
 use Rattle.std.specs.List.{list_any, flat_map}
 use Rattle.vch_model.specs.Store as store
 use Rattle.vch_machine.specs.State.{Living, Claim, Frame, Tasked, Machine, idle, tasked, with_tasked, alive_of, member_of, seen}

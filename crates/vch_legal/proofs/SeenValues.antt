@@ -1,6 +1,6 @@
 -- The live values of the machine and those that the store lists.
-use Rattle.std.proofs.Common.{◌≡◌, ℕ, zero, suc, ◌+◌, ◌<◌, ◌≤◌, Bool, List, [], ◌∷◌, ◌++◌, refl, true, false, not, ◌&&◌, ◌||◌, arith, sym, ap, ◌∙◌, subst, Some, None, Option}
-use Rattle.std.specs.Prelude.{if◌then◌else◌, ◌==◌, nat_lt, is_some}
+use Rattle.std.proofs.Common.{◌≡◌, ℕ, ◌+◌, ◌≤◌, Bool, List, [], ◌∷◌, refl, true, false, ◌&&◌, ◌||◌, arith, sym, ap, ◌∙◌, subst, Some, None, Option}
+use Rattle.std.specs.Prelude.{◌==◌, nat_lt, is_some}
 use Rattle.std.specs.List.{list_any, list_all, flat_map}
 use Rattle.vch_base.specs.declared.key.Key.{Key}
 use Rattle.vch_base.specs.declared.key.Key.TheVariants as keys
@@ -9,14 +9,11 @@ use Rattle.vch_base.specs.declared.value.Value.{Value}
 use Rattle.vch_base.specs.declared.value.Value.TheVariants as values
 use Rattle.vch_base.specs.Values.{Belongs, equal_values, is_default}
 use Rattle.vch_model.specs.declared.lists.Scenario.{Scenario}
-use Rattle.vch_model.specs.Voucher.{Voucher}
-use Rattle.vch_model.specs.Store as store
 use Rattle.vch_model.specs.Store.{Alive, is_alive, is_live, option_live, all_live}
 use Rattle.vch_model.specs.After.{without_made}
 use Rattle.vch_model.specs.Legal.{find_made}
 use Rattle.vch_machine.specs.State.{Handles, of_key, Place, same_place, Living, Machine, living_at, without_place, handle_of, value_of, value_at, valued, alive_of, seen, default_living, default_place}
-use Rattle.vch_machine.specs.Leaving.{is_fixed, is_fixed_value}
-use Rattle.vch_legal.specs.Facts.{Fits, NumbersFit, Different, EachOnce, bit, times}
+use Rattle.vch_legal.specs.Facts.{Fits, EachOnce, bit, times}
 use Rattle.vch_legal.proofs.Places.{same_place_eq, same_place_refl, same_number}
 use Rattle.vch_legal.proofs.EventSpots.{cases_bool}
 use Rattle.vch_legal.proofs.Forming.{LiveAt}

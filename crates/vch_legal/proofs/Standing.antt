@@ -1,21 +1,20 @@
 -- An event that does to its own task what it should leaves a state in which all stands.
-use Rattle.std.proofs.Common.{◌≡◌, ◌≢◌, ℕ, zero, suc, ◌+◌, ◌-◌, ◌<◌, ◌≤◌, Bool, List, [], ◌∷◌, refl, true, false, not, ◌&&◌, ◌||◌, arith, sym, ap, ◌∙◌, subst, length, Some, None, Option}
+use Rattle.std.proofs.Common.{◌≡◌, ◌≢◌, ℕ, ◌+◌, ◌-◌, ◌≤◌, Bool, List, ◌∷◌, refl, true, false, ◌&&◌, arith, sym, subst, length, Some, None, Option}
 use Rattle.std.specs.Prelude.{if◌then◌else◌, ◌==◌, nat_lt, is_some}
-use Rattle.vch_base.specs.declared.kind.Kind.{Kind}
 use Rattle.vch_model.specs.declared.entry.Entry.{Entry}
 use Rattle.vch_model.specs.declared.entry.Entry.TheVariants as entries
 use Rattle.vch_model.specs.declared.lists.Scenario.{Scenario}
 use Rattle.vch_model.specs.Lines.{calls_in, phases_in, is_task, lines_until, lines_of}
-use Rattle.vch_machine.specs.State.{Frame, Tasked, Machine, idle, tasked, member_of}
+use Rattle.vch_machine.specs.State.{Frame, Tasked, Machine, tasked, member_of}
 use Rattle.vch_machine.specs.Next.{task_next}
 use Rattle.vch_machine.specs.Events.{event, event_of}
 use Rattle.vch_machine.proofs.Others.{leaves_of}
 use Rattle.vch_legal.specs.Facts.{Fits, bit}
-use Rattle.vch_legal.specs.Tie.{IsForming, is_answering, IsOpen, TaskStands, any_frame, Stands}
+use Rattle.vch_legal.specs.Tie.{IsForming, is_answering, IsOpen, TaskStands, Stands}
 use Rattle.vch_legal.proofs.EventSpots.{cases_bool}
 use Rattle.vch_legal.proofs.SeenTasks.{none_at}
 use Rattle.vch_legal.proofs.PhaseLines.{all_lines}
-use Rattle.vch_legal.proofs.Follows.{Follows, EntryOf, follows_store, follows_legal, follows_phases}
+use Rattle.vch_legal.proofs.Follows.{Follows, follows_store, follows_legal, follows_phases}
 use Rattle.vch_legal.proofs.Lifts.{Lives, other_stands}
 
 -- what an event does to the history, the values and its own task

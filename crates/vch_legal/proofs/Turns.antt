@@ -1,25 +1,22 @@
 -- The schedules in turn and by seed give runs: each of their moves can happen.
-use Rattle.std.proofs.Common.{◌≡◌, ℕ, zero, suc, ◌+◌, ◌-◌, ◌%◌, ◌<◌, ◌≤◌, Bool, List, [], ◌∷◌, ◌++◌, refl, true, false, not, ◌&&◌, ◌||◌, arith, sym, ap, ◌∙◌, subst, length, get_or, Some, None, Option}
+use Rattle.std.proofs.Common.{◌≡◌, ℕ, zero, suc, ◌+◌, ◌<◌, ◌≤◌, Bool, List, [], ◌∷◌, ◌++◌, refl, true, false, arith, sym, ap, ◌∙◌, subst, length, Some, None, Option}
 use Rattle.std.proofs.lemmas.List.Sums.{length-filter}
-use Rattle.std.specs.Prelude.{if◌then◌else◌, ◌==◌, nat_lt, is_some, cond, slice_index_or}
+use Rattle.std.specs.Prelude.{◌==◌, nat_lt, is_some, cond}
 use Rattle.std.specs.List.{count_by, filter, AllByRecursion}
 use Rattle.vch_model.specs.declared.call.Line.{Line}
-use Rattle.vch_model.specs.declared.entry.Entry.TheVariants as entries
 use Rattle.vch_model.specs.declared.lists.Scenario.{Scenario}
-use Rattle.vch_model.specs.Lines.{is_task, calls_in, phases_in, lines_until}
-use Rattle.vch_model.specs.Scenarios.{IsIn, IsLimited}
-use Rattle.vch_machine.specs.State.{Frame, Machine, tasked, member_of, start, is_empty}
-use Rattle.vch_machine.specs.Events.{event, phase_event, numbers, ready}
-use Rattle.vch_machine.specs.Next.{next_kind, task_next, nth_call, frame_next}
-use Rattle.vch_machine.specs.Schedules.{Move, happens, run, run_from_start, lowest_open, first_waiting, turn_task, move_of, has_ended, in_turn, next_seed, drawn, picked, seed_after, by_seed}
+use Rattle.vch_model.specs.Lines.{is_task, phases_in, lines_until}
+use Rattle.vch_model.specs.Scenarios.{IsIn}
+use Rattle.vch_machine.specs.State.{Frame, Machine, tasked, member_of}
+use Rattle.vch_machine.specs.Events.{numbers}
+use Rattle.vch_machine.specs.Next.{next_kind, task_next}
+use Rattle.vch_machine.specs.Schedules.{lowest_open, first_waiting}
 use Rattle.vch_legal.specs.Facts.{bit}
-use Rattle.vch_legal.specs.Tie.{IsForming, is_answering, IsOpen, Stands}
+use Rattle.vch_legal.specs.Tie.{IsForming, IsOpen}
 use Rattle.vch_legal.proofs.EventSpots.{cases_bool}
 use Rattle.vch_legal.proofs.OwnSteps.{Before}
 use Rattle.vch_legal.proofs.AtRest.{frame_has_next, task_of}
-use Rattle.vch_legal.proofs.PhaseCounts.{of_task, lines_with_phase}
-use Rattle.vch_legal.proofs.Possible.{event_some}
-use Rattle.vch_legal.proofs.Runs.{start_stands, happens_stands}
+use Rattle.vch_legal.proofs.PhaseCounts.{of_task}
 
 -- the tasks
 

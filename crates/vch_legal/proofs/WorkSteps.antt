@@ -1,6 +1,6 @@
 -- Work, to its own task.
-use Rattle.std.proofs.Common.{◌≡◌, ℕ, ◌+◌, ◌-◌, Bool, List, [], ◌∷◌, ◌++◌, refl, true, false, not, ◌&&◌, ◌||◌, sym, ap, ◌∙◌, subst, length, drop, map, Some, None, Option, Ok, Err, Result}
-use Rattle.std.specs.Prelude.{if◌then◌else◌, ◌==◌, is_some, ℤ, pos}
+use Rattle.std.proofs.Common.{◌≡◌, ℕ, ◌+◌, Bool, List, [], ◌∷◌, ◌++◌, refl, true, false, sym, ap, ◌∙◌, subst, length, drop, Some, None, Ok, Err, Result}
+use Rattle.std.specs.Prelude.{if◌then◌else◌, is_some, ℤ, pos}
 use Rattle.vch_base.specs.declared.key.Key.{Key}
 use Rattle.vch_base.specs.declared.kind.Kind.{Kind}
 use Rattle.vch_base.specs.declared.kind.Kind.TheVariants as kinds
@@ -9,15 +9,13 @@ use Rattle.vch_recipe.specs.declared.recipe.Recipe.{Recipe}
 use Rattle.vch_model.specs.declared.call.Call.{Call}
 use Rattle.vch_model.specs.declared.call.Call.TheVariants as calls
 use Rattle.vch_model.specs.declared.lists.Scenario.{Scenario}
-use Rattle.vch_model.specs.Voucher.{Voucher}
 use Rattle.vch_model.specs.Eval.{eval}
 use Rattle.vch_model.specs.Legal.{asks}
-use Rattle.vch_machine.specs.State.{Handles, Named, Frame, Machine, tasked, valued, member_of}
-use Rattle.vch_machine.specs.Frames.{refuse}
-use Rattle.vch_machine.specs.Next.{nth_call, known_name, first_next, call_next}
+use Rattle.vch_machine.specs.State.{Handles, Frame, Machine, tasked, valued, member_of}
+use Rattle.vch_machine.specs.Next.{known_name, first_next, call_next}
 use Rattle.vch_machine.specs.Working.{Worked, work_first, work_done, do_work, size_of}
 use Rattle.vch_legal.specs.Facts.{Fits}
-use Rattle.vch_legal.specs.Tie.{KeysFit, FormsCreate, Forms}
+use Rattle.vch_legal.specs.Tie.{KeysFit, FormsCreate}
 use Rattle.vch_legal.proofs.HeldLive.{forming_live, names_live}
 use Rattle.vch_legal.proofs.Records.{seen_names, asks_same, valued_result, record_alike}
 use Rattle.vch_legal.proofs.Creates.{Names, worked_forms, refused_forms, Cut, cut_forms}

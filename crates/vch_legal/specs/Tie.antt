@@ -18,7 +18,7 @@ use Rattle.vch_model.specs.After.{store_of}
 use Rattle.vch_model.specs.Lines.{calls_in, phases_in, is_task, lines_until}
 use Rattle.vch_model.specs.Legal.{LegalPast, asks, reaches}
 use Rattle.vch_machine.specs.State.{Handles, with_key, Place, Living, Frame, Tasked, Machine, tasked, seen, valued, member_of, is_empty}
-use Rattle.vch_machine.specs.Making.{tail_keys, moved}
+use Rattle.vch_machine.specs.Making.{tail_keys}
 use Rattle.vch_machine.specs.Next.{nth_call}
 use Rattle.vch_legal.specs.Facts.{Fits, bit}
 
