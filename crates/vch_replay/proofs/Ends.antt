@@ -1,7 +1,6 @@
 -- How the statuses of the top call follow from what was read and written.
-use Rattle.std.proofs.Common.{◌≡◌, ◌+◌, ◌≤◌, ◌<◌, ◌⊎◌, ℕ, List, ◌++◌, length, sym, ap, ◌∙◌, arith, subst, Option, Some, None, IfSome, inr, append-nil}
+use Rattle.std.proofs.Common.{◌≡◌, ◌≤◌, ℕ, List, ◌++◌, length, sym, ap, ◌∙◌, arith, subst, Option, Some, None, IfSome, inr, append-nil}
 use Rattle.std.specs.Io.KnownBytes.{Consumes, IsAtEnd}
-use Rattle.vch_base.specs.Stream.{Appends}
 use Rattle.vch_replay.specs.declared.command.Command.{Command}
 use Rattle.vch_replay.specs.Input.{limit, GaveTooMuch, WritesPrefix}
 use Rattle.vch_replay.specs.Run.{IsIn, Refuses, WritesPart, IsGood}

@@ -1,11 +1,10 @@
 -- The report of a plain run is well formed.
-use Rattle.std.proofs.Common.{◌≡◌, ◌+◌, ◌-◌, ◌*◌, ◌≤◌, ◌<◌, ◌^◌, ℕ, zero, suc, List, [], ◌∷◌, ◌++◌, length, take, drop, reverse, refl, sym, ap, ◌∙◌, arith, subst, Bool, true, false, ◌==◌, nat_lt, Option, Some, None, cond, inl, inr, lit<, append_assoc, append-nil}
+use Rattle.std.proofs.Common.{◌≡◌, ◌+◌, ◌-◌, ◌*◌, ◌≤◌, ◌<◌, ℕ, suc, List, [], ◌∷◌, ◌++◌, length, take, drop, reverse, refl, sym, ap, ◌∙◌, arith, subst, Bool, true, false, ◌==◌, nat_lt, Option, Some, None, cond, inl, inr, lit<, append_assoc, append-nil}
 use Rattle.std.proofs.lemmas.Grind.{common_steps}
 use Rattle.std.proofs.lemmas.List.{reverse-append}
 use Rattle.std.specs.List.{AllByRecursion}
 use Rattle.hex.specs.Hex.{IsBytes}
 use Rattle.vch_base.specs.Values.{equal_lists}
-use Rattle.vch_base.specs.declared.value.Value.TheVariants as values
 use Rattle.vch_recipe.specs.Recipes as recipes
 use Rattle.vch_recipe.specs.Recipes.{word_at, First, One, End, HeaderCut, ContentCut, first_of}
 use Rattle.vch_model.specs.declared.call.Call.{Call}
@@ -20,7 +19,7 @@ use Rattle.vch_model.specs.Built.{AllBuilt, IsBuiltCall}
 use Rattle.vch_model.specs.Canonical.{HasBytes}
 use Rattle.vch_model.specs.Plain.{Plain, begun, put, let_go_at, served, serve_all, content_of, name_with, row_of, more_at, less_at, past_of}
 use Rattle.vch_model.proofs.PlainWhole.{served_calls}
-use Rattle.vch_report.specs.WellFormed.{IsEntry, IsNumber}
+use Rattle.vch_report.specs.WellFormed.{IsEntry}
 
 by_cases : (b : Bool) (P : Bool → Type 0) → (b ≡ true → P true) → (b ≡ false → P false) → P b
 by_cases true P t f = t refl
@@ -107,7 +106,9 @@ drop_formed p name (Some r) few is f =
     let call : IsEntry (entries.Call 1 (p.calls + 1) words.GiveUp replies.Done) = ((omega arith, omega arith), (omega arith, omega arith), tt) in
     by_cases (nat_lt 1 r.refs)
     (λ b. Formed (record {
-      rows = less_at p.rows name; next = p.next; calls = p.calls + 1;
+      rows = less_at p.rows name;
+      next = p.next;
+      calls = p.calls + 1;
       past = cond b (entries.Call 1 (p.calls + 1) words.GiveUp replies.Done ∷ p.past) (entries.Released r.made ∷ entries.Call 1 (p.calls + 1) words.GiveUp replies.Done ∷ p.past);
     }))
     (λ _. record {
@@ -136,7 +137,7 @@ content_bytes bytes b =
     (λ _. by_cases (nat_lt (length bytes) 16) (λ t. IsBytes (content_of (cond t (HeaderCut (length bytes)) whole))) (λ _ i. lit< tt) (λ _.
     by_cases (nat_lt (length (drop 16 bytes)) (word_at 12 bytes))
     (λ t. IsBytes (content_of (cond t (ContentCut (word_at 12 bytes) (length (drop 16 bytes)))
-      (One (record { key = word_at 0 bytes; command = word_at 4 bytes; previous = word_at 8 bytes; content = take (word_at 12 bytes) (drop 16 bytes) }) (drop (word_at 12 bytes) (drop 16 bytes))))))
+    (One (record { key = word_at 0 bytes; command = word_at 4 bytes; previous = word_at 8 bytes; content = take (word_at 12 bytes) (drop 16 bytes) }) (drop (word_at 12 bytes) (drop 16 bytes))))))
     (λ _ i. lit< tt) (λ _. part_bytes bytes (word_at 12 bytes) 16 b)))
 
 served_formed : (p : Plain) (call : Call) → IsBuiltCall call → HasBytes call → p.calls < 16384 → Formed p → Formed (served p call)

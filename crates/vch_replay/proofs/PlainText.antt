@@ -1,18 +1,13 @@
 -- The report of a plain run is well formed.
-use Rattle.std.proofs.Common.{◌≡◌, ◌+◌, ◌≤◌, ◌<◌, ◌^◌, ℕ, List, [], ◌∷◌, length, reverse, refl, sym, ap, ◌∙◌, arith, subst, slice_index_or, lit<}
+use Rattle.std.proofs.Common.{◌≡◌, ◌+◌, ◌≤◌, ◌<◌, ◌^◌, [], ◌∷◌, length, sym, ap, arith, subst, lit<}
 use Rattle.std.specs.List.{AllByRecursion}
 use Rattle.vch_model.specs.declared.call.Line.{Line}
-use Rattle.vch_model.specs.declared.entry.Entry.{Entry}
-use Rattle.vch_model.specs.declared.total.Total.{Total}
 use Rattle.vch_model.specs.declared.lists.Scenario.{Scenario}
-use Rattle.vch_model.specs.Built.{CanRun, AllBuilt, one_phase, first_phase}
+use Rattle.vch_model.specs.Built.{CanRun, one_phase, first_phase}
 use Rattle.vch_model.specs.Canonical.{IsWritable, HasBytes}
-use Rattle.vch_model.specs.Plain.{Adds, history_of}
+use Rattle.vch_model.specs.Plain.{history_of}
 use Rattle.vch_model.specs.Scenarios.{line_count}
-use Rattle.vch_model.specs.Text.{Text, report_text, totals_of, vouchers_in, values_in}
-use Rattle.vch_model.specs.After.{store_of}
 use Rattle.vch_report.specs.declared.report.Report.{Report}
-use Rattle.vch_report.specs.Items.{text_of}
 use Rattle.vch_report.specs.WellFormed.{IsWellFormed, IsEntry}
 use Rattle.vch_replay.proofs.PlainReports.{past_formed}
 
@@ -28,7 +23,7 @@ pub well_formed : (sc : Scenario) (report : Report) → CanRun sc → IsWritable
     → report.vouchers < 2 ^ 64 → report.values < 2 ^ 64 → IsWellFormed report
 well_formed sc report can writable history totals vouchers values =
     let entries : AllByRecursion IsEntry (history_of sc) =
-      past_formed (first_phase sc) can.calls (lines_bytes sc can.shape writable.bytes) (lines_few sc can.shape writable.limited.calls) in
+    past_formed (first_phase sc) can.calls (lines_bytes sc can.shape writable.bytes) (lines_few sc can.shape writable.limited.calls) in
     record {
       entries = subst (AllByRecursion IsEntry) (sym history) entries;
       totals = rw totals ((lit< tt, lit< tt, lit< tt), tt);

@@ -1,5 +1,5 @@
 -- What the top call promises.
-use Rattle.std.specs.Prelude.{◌≡◌, ◌≤◌, ◌<◌, ◌⊎◌, ℕ, List, ◌++◌, length, take, Option, Some, None}
+use Rattle.std.specs.Prelude.{◌≡◌, ◌≤◌, ◌<◌, ◌⊎◌, ℕ, List, length, take, Option, Some, None}
 use Rattle.vch_base.specs.Stream.{Appends}
 use Rattle.vch_recipe.specs.Recipes.{Recipes}
 use Rattle.vch_recipe.specs.Cuts.{IsHeaderCut, IsContentCut}

@@ -72,4 +72,3 @@ pub fn recipe_fault_line(alloc: Global, fault: &RecipeFault) -> Result<Vec<u8>, 
     push_text(&mut out, b"\n")?;
     Ok(out)
 }
-

@@ -178,21 +178,19 @@ fn worked_runs(rt: HostRuntime) -> Result<(), Fail> {
 fn failing_ends(rt: HostRuntime) -> Result<(), Fail> {
     let alloc = rt.alloc();
     let words = words_of(alloc, &["play"])?;
-    let mut source = MemSource::new(
-        Vec::from_slice(alloc, STORE)?,
-        vec![in alloc; 2u64]?,
-        8,
-    );
+    let mut source = MemSource::new(Vec::from_slice(alloc, STORE)?, vec![in alloc; 2u64]?, 8);
     let mut sink = MemSink::new(alloc, Vec::new(alloc), 10, 1000)?;
-    assert_eq!(rt; run_plain(alloc, words.as_slice(), &mut source, &mut sink), 3);
-    assert!(rt; sink.written().is_empty());
-    let mut source = MemSource::new(
-        Vec::from_slice(alloc, STORE)?,
-        Vec::new(alloc),
-        8,
+    assert_eq!(rt;
+        run_plain(alloc, words.as_slice(), &mut source, &mut sink),
+        3
     );
+    assert!(rt; sink.written().is_empty());
+    let mut source = MemSource::new(Vec::from_slice(alloc, STORE)?, Vec::new(alloc), 8);
     let mut sink = MemSink::new(alloc, vec![in alloc; 2u64]?, 10, 1000)?;
-    assert_eq!(rt; run_plain(alloc, words.as_slice(), &mut source, &mut sink), 4);
+    assert_eq!(rt;
+        run_plain(alloc, words.as_slice(), &mut source, &mut sink),
+        4
+    );
     assert_eq!(rt; sink.written(), b"report 1\nm".as_slice());
     Ok(())
 }
@@ -209,7 +207,10 @@ fn the_most_bytes(rt: HostRuntime) -> Result<(), Fail> {
     let alloc = rt.alloc();
     let mut sink = SteadySink::new(alloc, 1000)?;
     assert_eq!(rt; status_of_line_feeds(alloc, 4194304, &mut sink)?, 2);
-    assert_eq!(rt; sink.written(), b"fault line 4194305 why ending\n".as_slice());
+    assert_eq!(rt;
+        sink.written(),
+        b"fault line 4194305 why ending\n".as_slice()
+    );
     let mut sink = SteadySink::new(alloc, 1000)?;
     assert_eq!(rt; status_of_line_feeds(alloc, 4194305, &mut sink)?, 6);
     assert!(rt; sink.written().is_empty());

@@ -1,4 +1,4 @@
-use Rattle.std.proofs.Common.{◌≡◌, ◌∙◌, ◌++◌, ◌+◌, List, sym, ap, take, append_assoc, arith}
+use Rattle.std.proofs.Common.{◌∙◌, ◌++◌, List, sym, ap, take, append_assoc, arith}
 use Rattle.std.proofs.lemmas.List.{take_all}
 use Rattle.std.specs.List.{flat_map}
 use Rattle.vch_recipe.specs.declared.recipe.Recipe.{Recipe}

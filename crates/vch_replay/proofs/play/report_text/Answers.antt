@@ -1,5 +1,4 @@
-use Rattle.std.proofs.Common.{rules, ◌≡◌, ◌+◌, ◌<◌, ◌^◌, ◌∷◌, [], ℕ, List, length, vec_len, arith, sym, ap, ◌∙◌}
-use Rattle.vch_model.specs.declared.total.Total.{Total}
+use Rattle.std.proofs.Common.{rules}
 use Rattle.vch_replay.proofs.PlainText.{well_formed}
 use Rattle.vch_replay.proofs.play.report_text.Goals as goal
 
