@@ -22,7 +22,8 @@ use Rattle.vch_report.proofs.Runs.{step_items, task_items, items_read, Counted, 
 
 text_append : (xs ys : List (List ℕ)) → lines_text (xs ++ ys) ≡ lines_text xs ++ lines_text ys
 text_append [] ys = refl
-text_append (x ∷ xs) ys = ap (λ l. (x ++ newline) ++ l) (text_append xs ys) ∙ sym (append_assoc (x ++ newline) (lines_text xs) (lines_text ys))
+text_append (x ∷ xs) ys = ap (λ l. (x ++ newline) ++ l) (text_append xs ys)
+    ∙ sym (append_assoc (x ++ newline) (lines_text xs) (lines_text ys))
 
 steps_text : (es : List Entry) → lines_text (item_lines (step_items es)) ≡ flat_map entry_line es
 steps_text [] = refl
@@ -35,16 +36,26 @@ tasks_text t (x ∷ ts) = ap (λ l. (item_text (items.Task t x) ++ newline) ++ l
 last_text : (v w : ℕ) → lines_text (item_lines (items.Counts v w ∷ items.End ∷ [])) ≡ last_lines v w
 last_text v w = sym (append_assoc (counts_text v w ++ newline) (codes "end") newline)
 
-pub whole_text : (es : List Entry) (ts : List Total) (v w : ℕ) → report_text es ts v w ≡ lines_text (item_lines (items_of es ts v w))
+pub whole_text : (es : List Entry) (ts : List Total) (v w : ℕ)
+    → report_text es ts v w ≡ lines_text (item_lines (items_of es ts v w))
 unfolding report_text
 whole_text es ts v w =
     let head = codes "report 1" ++ newline in
     let steps = step_items es in
     let tasks = task_items 1 ts in
     let last = items.Counts v w ∷ items.End ∷ [] in
-    let a : lines_text (item_lines (tasks ++ last)) ≡ total_lines 1 ts ++ last_lines v w = ap (λ l. lines_text l) (lines_append tasks last) ∙ text_append (item_lines tasks) (item_lines last) ∙ ap (λ l. l ++ lines_text (item_lines last)) (tasks_text 1 ts) ∙ ap (λ l. total_lines 1 ts ++ l) (last_text v w) in
-    let b : lines_text (item_lines (steps ++ (tasks ++ last))) ≡ flat_map entry_line es ++ (total_lines 1 ts ++ last_lines v w) = ap (λ l. lines_text l) (lines_append steps (tasks ++ last)) ∙ text_append (item_lines steps) (item_lines (tasks ++ last)) ∙ ap (λ l. l ++ lines_text (item_lines (tasks ++ last))) (steps_text es) ∙ ap (λ l. flat_map entry_line es ++ l) a in
-    sym (ap (λ l. head ++ l) b ∙ sym (append_assoc head (flat_map entry_line es) (total_lines 1 ts ++ last_lines v w)) ∙ sym (append_assoc (head ++ flat_map entry_line es) (total_lines 1 ts) (last_lines v w)))
+    let a : lines_text (item_lines (tasks ++ last)) ≡ total_lines 1 ts ++ last_lines v w = ap
+    (λ l. lines_text l) (lines_append tasks last) ∙ text_append (item_lines tasks) (item_lines last)
+    ∙ ap (λ l. l ++ lines_text (item_lines last)) (tasks_text 1 ts)
+    ∙ ap (λ l. total_lines 1 ts ++ l) (last_text v w) in
+    let b : lines_text (item_lines (steps ++ (tasks ++ last))) ≡ flat_map entry_line es ++
+    (total_lines 1 ts ++ last_lines v w) = ap (λ l. lines_text l) (lines_append steps (tasks ++ last))
+    ∙ text_append (item_lines steps) (item_lines (tasks ++ last))
+    ∙ ap (λ l. l ++ lines_text (item_lines (tasks ++ last))) (steps_text es)
+    ∙ ap (λ l. flat_map entry_line es ++ l) a in
+    sym (ap (λ l. head ++ l) b
+    ∙ sym (append_assoc head (flat_map entry_line es) (total_lines 1 ts ++ last_lines v w))
+    ∙ sym (append_assoc (head ++ flat_map entry_line es) (total_lines 1 ts) (last_lines v w)))
 
 -- ---- lines are cut where they were joined
 
@@ -55,10 +66,12 @@ IsOne l = (rest : List ℕ) → split_of (l ++ (10 ∷ rest)) ≡ with_line_befo
 abbrev pub onto : List (List ℕ) → List (List ℕ) × List ℕ → List (List ℕ) × List ℕ
 onto ls p = (ls ++ p.0, p.1)
 
-pub split_lines : (ls : List (List ℕ)) (more : List ℕ) → AllByRecursion IsOne ls → split_of (lines_text ls ++ more) ≡ onto ls (split_of more)
+pub split_lines : (ls : List (List ℕ)) (more : List ℕ) → AllByRecursion IsOne ls
+    → split_of (lines_text ls ++ more) ≡ onto ls (split_of more)
 split_lines [] more h = refl
 split_lines (l ∷ ls) more h =
-    let e : lines_text (l ∷ ls) ++ more ≡ l ++ (10 ∷ (lines_text ls ++ more)) = append_assoc (l ++ newline) (lines_text ls) more ∙ append_assoc l newline (lines_text ls ++ more) in
+    let e : lines_text (l ∷ ls) ++ more ≡ l ++ (10 ∷ (lines_text ls ++ more)) = append_assoc (l ++ newline)
+    (lines_text ls) more ∙ append_assoc l newline (lines_text ls ++ more) in
     ap split_of e ∙ h.0 (lines_text ls ++ more) ∙ ap (with_line_before l) (split_lines ls more h.1)
 
 one_nil : IsOne []
@@ -69,11 +82,13 @@ one_cons : (c : ℕ) (l : List ℕ) → eqb c 10 ≡ false → IsOne l → IsOne
 unfolding split_of
 one_cons c l other h rest = rw other (ap (with_byte c) (h rest))
 
-ones_byte : (c : ℕ) (p : List (List ℕ) × List ℕ) → eqb c 10 ≡ false → AllByRecursion IsOne p.0 → AllByRecursion IsOne (with_byte c p).0
+ones_byte : (c : ℕ) (p : List (List ℕ) × List ℕ) → eqb c 10 ≡ false → AllByRecursion IsOne p.0
+    → AllByRecursion IsOne (with_byte c p).0
 ones_byte c ([], rest) e h = tt
 ones_byte c (l ∷ ls, rest) e h = (one_cons c l e h.0, h.1)
 
-ones_test : (b : Bool) (c : ℕ) (p : List (List ℕ) × List ℕ) → eqb c 10 ≡ b → AllByRecursion IsOne p.0 → AllByRecursion IsOne (cond b ([] ∷ p.0, p.1) (with_byte c p)).0
+ones_test : (b : Bool) (c : ℕ) (p : List (List ℕ) × List ℕ) → eqb c 10 ≡ b → AllByRecursion IsOne p.0
+    → AllByRecursion IsOne (cond b ([] ∷ p.0, p.1) (with_byte c p)).0
 ones_test true c p e h = (one_nil, h)
 ones_test false c p e h = ones_byte c p e h
 
@@ -92,10 +107,26 @@ cut ls rest = (ls, rest)
 -- ---- a report's text
 
 pub counted : (r : Report) → IsWellFormed r → Counted r.history.entries r.totals r.vouchers r.values
-counted r h = record { listed = record { entries = h.entries; totals = h.totals; some = h.some_task; few = h.numbered }; vouchers = h.vouchers; values = h.values }
+counted r h = record {
+  listed = record {
+    entries = h.entries;
+    totals = h.totals;
+    some = h.some_task;
+    few = h.numbered;
+  };
+  vouchers = h.vouchers;
+  values = h.values;
+}
 
 pub well_formed : (r : Report) → Counted r.history.entries r.totals r.vouchers r.values → IsWellFormed r
-well_formed r c = record { entries = c.listed.entries; totals = c.listed.totals; some_task = c.listed.some; numbered = c.listed.few; vouchers = c.vouchers; values = c.values }
+well_formed r c = record {
+  entries = c.listed.entries;
+  totals = c.listed.totals;
+  some_task = c.listed.some;
+  numbered = c.listed.few;
+  vouchers = c.vouchers;
+  values = c.values;
+}
 
 abbrev pub lines_of : Report → List (List ℕ)
 lines_of r = item_lines (items_of r.history.entries r.totals r.vouchers r.values)
@@ -108,18 +139,25 @@ pub report_split : (text : List ℕ) (r : Report) → IsReport text r → split_
 report_split text r h =
     let is = items_of r.history.entries r.totals r.vouchers r.values in
     let all = all_items r.history.entries r.totals r.vouchers r.values (counted r h.0) in
-    let e : text ≡ lines_text (lines_of r) ++ [] = h.1 ∙ whole_text r.history.entries r.totals r.vouchers r.values ∙ sym (append-nil (lines_text (lines_of r))) in
-    ap split_of e ∙ split_lines (lines_of r) [] (items_ones is all) ∙ ap (onto (lines_of r)) split_nil ∙ ap (λ l. cut l []) (append-nil (lines_of r))
+    let e : text ≡ lines_text (lines_of r) ++ [] = h.1 ∙ whole_text r.history.entries r.totals r.vouchers r.values
+    ∙ sym (append-nil (lines_text (lines_of r))) in
+    ap split_of e ∙ split_lines (lines_of r) [] (items_ones is all) ∙ ap (onto (lines_of r)) split_nil
+    ∙ ap (λ l. cut l []) (append-nil (lines_of r))
 
 pub report_goes : (r : Report) → IsWellFormed r → go nothing (lines_of r) ≡ Some (whole r)
 report_goes r h = go_whole r.history.entries r.totals r.vouchers r.values (counted r h)
 
 -- what was read to its end is the report's text
-pub whole_report : (text : List ℕ) (r : Report) (lines : List (List ℕ)) → split_of text ≡ cut lines [] → go nothing lines ≡ Some (whole r) → IsReport text r
+pub whole_report : (text : List ℕ) (r : Report) (lines : List (List ℕ)) → split_of text ≡ cut lines []
+    → go nothing lines ≡ Some (whole r) → IsReport text r
 whole_report text r lines e g =
     let w = go_told nothing (whole r) lines (refl, refl) g in
-    let joins : text ≡ lines_text lines ++ [] = sym (split_joined text) ∙ ap (λ (p : List (List ℕ) × List ℕ). joined p) e in
-    (well_formed r w.good, joins ∙ append-nil (lines_text lines) ∙ ap (λ l. lines_text l) (sym w.spelled) ∙ sym (whole_text r.history.entries r.totals r.vouchers r.values))
+    let joins : text ≡ lines_text lines ++ [] = sym (split_joined text)
+    ∙ ap (λ (p : List (List ℕ) × List ℕ). joined p) e in (
+      well_formed r w.good,
+      joins ∙ append-nil (lines_text lines) ∙ ap (λ l. lines_text l) (sym w.spelled)
+          ∙ sym (whole_text r.history.entries r.totals r.vouchers r.values),
+    )
 
 -- ---- lines that lead to something begin a report
 
@@ -131,16 +169,26 @@ unfolding report_with
 begun_by before d e x =
     let r = report_with x.entries x.totals x.vouchers x.values in
     let more = lines_text (item_lines x.more) in
-    let lines : lines_of r ≡ before ++ item_lines x.more = ap item_lines x.items ∙ lines_append (items_read d) x.more ∙ ap (λ l. l ++ item_lines x.more) e in
-    (r, more, (well_formed r x.good, sym (text_append before (item_lines x.more)) ∙ ap (λ l. lines_text l) (sym lines) ∙ sym (whole_text x.entries x.totals x.vouchers x.values)))
+    let lines : lines_of r ≡ before ++ item_lines x.more = ap item_lines x.items
+    ∙ lines_append (items_read d) x.more ∙ ap (λ l. l ++ item_lines x.more) e in (
+      r,
+      more,
+      (
+        well_formed r x.good,
+        sym (text_append before (item_lines x.more))
+            ∙ ap (λ l. lines_text l) (sym lines) ∙ sym (whole_text x.entries x.totals x.vouchers x.values),
+      ),
+    )
 
 pub begun : (before : List (List ℕ)) (d : Read) → go nothing before ≡ Some d → IsBegun before
 begun before d g = let w = go_told nothing d before (refl, refl) g in begun_by before d w.spelled (ended d w.good)
 
 -- fewer lines begin it too
-pub begun_shorter : (a : List (List ℕ)) (x : List ℕ) (xs : List (List ℕ)) → IsBegun (a ++ x ∷ xs) → IsBegun (a ++ x ∷ [])
+pub begun_shorter : (a : List (List ℕ)) (x : List ℕ) (xs : List (List ℕ)) → IsBegun (a ++ x ∷ xs)
+    → IsBegun (a ++ x ∷ [])
 begun_shorter a x xs b =
     let first : a ++ x ∷ xs ≡ (a ++ x ∷ []) ++ xs = sym (append_assoc a (x ∷ []) xs) in
     let e : lines_text (a ++ x ∷ xs) ++ b.1 ≡ lines_text (a ++ x ∷ []) ++ (lines_text xs ++ b.1) =
-    ap (λ l. lines_text l ++ b.1) first ∙ ap (λ l. l ++ b.1) (text_append (a ++ x ∷ []) xs) ∙ append_assoc (lines_text (a ++ x ∷ [])) (lines_text xs) b.1 in
+    ap (λ l. lines_text l ++ b.1) first ∙ ap (λ l. l ++ b.1) (text_append (a ++ x ∷ []) xs)
+    ∙ append_assoc (lines_text (a ++ x ∷ [])) (lines_text xs) b.1 in
     (b.0, lines_text xs ++ b.1, subst (λ (t : List ℕ). IsReport t b.0) e b.2)

@@ -23,8 +23,12 @@ read_below top w n few r lt =
 pub below_told : (top : ℕ) (w : List ℕ) → top ≤ 10 ^ 64 → Told (λ n. IsBelow top w n) (below top w)
 unfolding below
 below_told top w few =
-    told_bind (λ k. IsRead top w k) (λ n. IsBelow top w n) (number_of top w) (λ n. cond (ltb n top) (Some n) None) (number_told top w)
-    (λ n r. told_test (λ m. IsBelow top w m) (ltb n top) (Some n) None (λ t. let lt : n < top = grind (arith, common_steps) in read_below top w n few r lt) (λ f. tt))
+    told_bind (λ k. IsRead top w k) (λ n. IsBelow top w n) (number_of top w)
+    (λ n. cond (ltb n top) (Some n) None) (number_told top w)
+    (λ n r. told_test (λ m. IsBelow top w m) (ltb n top) (Some n) None (λ t. let lt : n < top = grind (
+      arith,
+      common_steps,
+    ) in read_below top w n few r lt) (λ f. tt))
 
 abbrev pub found : {X : Type 0} → X → Option X
 found x = Some x
@@ -35,7 +39,8 @@ below_again top w n few lt e =
     let same : min n top ≡ n = omega arith in
     rw (number_again top w n (numeral_is w n (omega arith) e), same, lt-ltb n top lt) refl
 
-none_by : (top : ℕ) (w : List ℕ) (r : Option ℕ) → Told (λ n. IsBelow top w n) r → ((n : ℕ) → n < top → w ≡ decimal n → ⊥) → r ≡ None
+none_by : (top : ℕ) (w : List ℕ) (r : Option ℕ) → Told (λ n. IsBelow top w n) r → ((n : ℕ) → n < top → w ≡ decimal n
+    → ⊥) → r ≡ None
 none_by top w (Some n) t never = absurd (never n t.small t.word)
 none_by top w None t never = refl
 
@@ -51,8 +56,12 @@ pub record IsOrdinal (w : List ℕ) (n : ℕ) : Type 0 where
 pub ordinal_told : (w : List ℕ) → Told (λ n. IsOrdinal w n) (ordinal w)
 unfolding ordinal
 ordinal_told w =
-    told_bind (λ n. IsBelow (2 ^ 32) w n) (λ n. IsOrdinal w n) (below (2 ^ 32) w) (λ n. cond (ltb 0 n) (Some n) None) (below_told (2 ^ 32) w (omega arith))
-    (λ n b. told_test (λ m. IsOrdinal w m) (ltb 0 n) (Some n) None (λ t. let lt : 0 < n = grind (arith, common_steps) in record { word = b.word; number = (omega arith, b.small) }) (λ f. tt))
+    told_bind (λ n. IsBelow (2 ^ 32) w n) (λ n. IsOrdinal w n) (below (2 ^ 32) w)
+    (λ n. cond (ltb 0 n) (Some n) None) (below_told (2 ^ 32) w (omega arith))
+    (λ n b. told_test (λ m. IsOrdinal w m) (ltb 0 n) (Some n) None (λ t. let lt : 0 < n = grind (
+      arith,
+      common_steps,
+    ) in record { word = b.word; number = (omega arith, b.small) }) (λ f. tt))
 
 pub ordinal_again : (w : List ℕ) (n : ℕ) → IsNumber n → w ≡ decimal n → ordinal w ≡ Some n
 unfolding ordinal

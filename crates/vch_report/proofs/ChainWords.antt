@@ -47,26 +47,37 @@ length_words (t ∷ ts) = ap suc (length_words ts)
 pub chain_told : (w : List ℕ) → Told (λ list. ChainAt w list) (chain_of w)
 unfolding chain_of
 chain_told w =
-    told_bind (λ ts. AreOrdinals (parts_of w) ts) (λ list. ChainAt w list) (ordinals (parts_of w)) _ (ordinals_told (parts_of w))
+    told_bind (λ ts. AreOrdinals (parts_of w) ts)
+    (λ list. ChainAt w list) (ordinals (parts_of w)) _ (ordinals_told (parts_of w))
     (λ ts h. told_test (λ list. ChainAt w list) (leb (length ts) 8) (Some ts) None
     (λ t. let few : length ts ≤ 8 = grind (arith, common_steps) in
     record {
       word = sym (join_with_byte-slice_split 44 w) ∙ ap (λ (ps : List (List ℕ)). join_with_byte 44 ps) h.words;
-      is = record { some = omega (arith, ap length h.words, length_words ts, length-slice_split (λ c. eqb c 44) w); few = few; numbers = h.numbers };
+      is = record {
+        some = omega (arith, ap length h.words, length_words ts, length-slice_split (λ c. eqb c 44) w);
+        few = few;
+        numbers = h.numbers;
+      };
     }) (λ f. tt))
 
 -- ---- and back
 
 no_comma : (w : List ℕ) → IsDecimal w → All (λ c. eqb c 44 ≡ false) w
 no_comma [] h = All-nil (λ c. eqb c 44 ≡ false)
-no_comma (c ∷ w) h = let low = h.0 in All-cons (λ c. eqb c 44 ≡ false) c w (grind (arith, common_steps)) (no_comma w h.2)
+no_comma (c ∷ w) h = let low = h.0 in All-cons (λ c. eqb c 44 ≡ false) c w (grind (
+  arith,
+  common_steps,
+)) (no_comma w h.2)
 
 decimal_comma : (n : ℕ) → IsNumber n → All (λ c. eqb c 44 ≡ false) (decimal n)
 decimal_comma n h = no_comma (decimal n) (decimal_numeral n (omega (arith, h.1))).digits
 
-parts_again : (t : ℕ) (ts : List ℕ) → AllByRecursion IsNumber (t ∷ ts) → parts_of (chain_text (t ∷ ts)) ≡ map decimal (t ∷ ts)
+parts_again : (t : ℕ) (ts : List ℕ) → AllByRecursion IsNumber (t ∷ ts)
+    → parts_of (chain_text (t ∷ ts)) ≡ map decimal (t ∷ ts)
 parts_again t [] h = slice_split_none (λ c. eqb c 44) (decimal t) (decimal_comma t h.0)
-parts_again t (u ∷ ts) h = slice_split_at (λ c. eqb c 44) (decimal t) 44 (chain_text (u ∷ ts)) (decimal_comma t h.0) refl ∙ ap (λ ps. decimal t ∷ ps) (parts_again u ts h.1)
+parts_again t (u ∷ ts) h = slice_split_at
+    (λ c. eqb c 44) (decimal t) 44 (chain_text (u ∷ ts)) (decimal_comma t h.0) refl
+    ∙ ap (λ ps. decimal t ∷ ps) (parts_again u ts h.1)
 
 ordinals_again : (ts : List ℕ) → AllByRecursion IsNumber ts → ordinals (map decimal ts) ≡ Some ts
 ordinals_again [] h = refl
@@ -75,7 +86,11 @@ ordinals_again (t ∷ ts) h = rw (ordinal_again (decimal t) t h.0 refl, ordinals
 pub chain_again : (list : List ℕ) → IsChain list → chain_of (chain_text list) ≡ Some list
 unfolding chain_of
 chain_again [] h = absurd (omega (arith, h.some))
-chain_again (t ∷ ts) h = rw (parts_again t ts h.numbers, ordinals_again (t ∷ ts) h.numbers, le-leb (length (t ∷ ts)) 8 h.few) refl
+chain_again (t ∷ ts) h = rw (
+  parts_again t ts h.numbers,
+  ordinals_again (t ∷ ts) h.numbers,
+  le-leb (length (t ∷ ts)) 8 h.few,
+) refl
 
 plain_append : (a b : List ℕ) → IsPlain a → IsPlain b → IsPlain (a ++ b)
 plain_append [] b h g = g
@@ -84,4 +99,7 @@ plain_append (c ∷ a) b h g = (h.0, plain_append a b h.1 g)
 pub chain_plain : (list : List ℕ) → AllByRecursion IsNumber list → IsPlain (chain_text list)
 chain_plain [] h = tt
 chain_plain (t ∷ []) h = decimal_plain t (omega (arith, h.0.1))
-chain_plain (t ∷ u ∷ ts) h = plain_append (decimal t) (44 ∷ chain_text (u ∷ ts)) (decimal_plain t (omega (arith, h.0.1))) (omega arith, chain_plain (u ∷ ts) h.1)
+chain_plain (t ∷ u ∷ ts) h = plain_append (decimal t) (44 ∷ chain_text (u ∷ ts)) (decimal_plain t (omega (
+  arith,
+  h.0.1,
+))) (omega arith, chain_plain (u ∷ ts) h.1)

@@ -57,10 +57,12 @@ pub below_at_told : (top : ℕ) (rest : List ℕ) → top ≤ 10 ^ 64 → Told (
 unfolding below_at
 below_at_told top rest few =
     told_bind (λ x. Begins rest x.0 x.1) (λ x. BelowAt top rest x.0 x.1) (word_at rest) _ (word_told rest)
-    (λ w b. told_bind (λ n. IsBelow top w.0 n) (λ x. BelowAt top rest x.0 x.1) (below top w.0) _ (below_told top w.0 few)
+    (λ w b. told_bind (λ n. IsBelow top w.0 n)
+    (λ x. BelowAt top rest x.0 x.1) (below top w.0) _ (below_told top w.0 few)
     (λ n h. record { parts = b.parts ∙ ap (λ l. said l w.1) h.word; small = h.small }))
 
-pub below_at_again : (top n : ℕ) (more : List ℕ) → top ≤ 10 ^ 64 → n < top → Follows more → below_at top (num n more) ≡ Some (n, more)
+pub below_at_again : (top n : ℕ) (more : List ℕ) → top ≤ 10 ^ 64 → n < top → Follows more
+    → below_at top (num n more) ≡ Some (n, more)
 unfolding below_at
 below_at_again top n more few lt f =
     rw (said_again (decimal n) more (decimal_plain n (omega arith)) f, below_again top (decimal n) n few lt refl) refl
@@ -87,7 +89,8 @@ pub after_told : (text rest : List ℕ) → Told (λ more. rest ≡ said text mo
 unfolding after
 after_told text rest =
     told_bind (λ x. Begins rest x.0 x.1) (λ more. rest ≡ said text more) (word_at rest) _ (word_told rest)
-    (λ w b. told_test (λ more. rest ≡ said text more) (is_word w.0 text) (Some w.1) None (λ t. b.parts ∙ ap (λ l. said l w.1) (word_true w.0 text t)) (λ f. tt))
+    (λ w b. told_test (λ more. rest ≡ said text more) (is_word w.0 text) (Some w.1) None (λ t. b.parts
+    ∙ ap (λ l. said l w.1) (word_true w.0 text t)) (λ f. tt))
 
 pub after_again : (text more : List ℕ) → above text ≡ true → Follows more → after text (said text more) ≡ Some more
 unfolding after
@@ -99,8 +102,13 @@ pub record BytesAt (rest bytes : List ℕ) : Type 0 where
   pub parts : rest ≡ 32 ∷ hex_of bytes
   pub bytes_are : IsBytes bytes
 
-bytes_parts : (rest w more bytes : List ℕ) → Begins rest w more → more ≡ [] → (w ≡ hex_of bytes) × IsBytes bytes → BytesAt rest bytes
-bytes_parts rest w more bytes b e h = record { parts = b.parts ∙ ap (λ l. said w l) e ∙ ap (λ l. 32 ∷ l) (append-nil w ∙ h.0); bytes_are = h.1 }
+bytes_parts : (rest w more bytes : List ℕ) → Begins rest w more → more ≡ [] → (w ≡ hex_of bytes) × IsBytes bytes
+    → BytesAt rest bytes
+bytes_parts rest w more bytes b e h = record {
+  parts = b.parts ∙ ap (λ l. said w l) e
+      ∙ ap (λ l. 32 ∷ l) (append-nil w ∙ h.0);
+  bytes_are = h.1;
+}
 
 pub bytes_at_told : (rest : List ℕ) → Told (λ bytes. BytesAt rest bytes) (bytes_at rest)
 unfolding bytes_at
@@ -108,11 +116,18 @@ bytes_at_told rest =
     told_bind (λ x. Begins rest x.0 x.1) (λ bytes. BytesAt rest bytes) (word_at rest) _ (word_told rest)
     (λ w b. told_bind (λ u. w.1 ≡ []) (λ bytes. BytesAt rest bytes) (end_of w.1) _ (end_told w.1)
     (λ u e. told_bind (λ bytes. IsHex w.0 bytes) (λ bytes. BytesAt rest bytes) (bytes_of w.0) _ (hex_told w.0)
-    (λ bytes h. told_test (λ bytes. BytesAt rest bytes) (is_lower w.0) (Some bytes) None (λ t. bytes_parts rest w.0 w.1 bytes b e (lower_told w.0 bytes h t)) (λ f. tt))))
+    (λ bytes h. told_test (λ bytes. BytesAt rest bytes) (is_lower w.0) (Some bytes) None
+    (λ t. bytes_parts rest w.0 w.1 bytes b e (lower_told w.0 bytes h t)) (λ f. tt))))
 
 pub bytes_at_again : (bytes : List ℕ) → IsBytes bytes → bytes_at (32 ∷ hex_of bytes) ≡ Some bytes
 unfolding bytes_at
 bytes_at_again bytes h =
     let e : hex_of bytes ++ [] ≡ hex_of bytes = append-nil (hex_of bytes) in
-    let w : word_at (32 ∷ hex_of bytes) ≡ Some (hex_of bytes, []) = subst (λ (l : List ℕ). word_at (32 ∷ l) ≡ Some (hex_of bytes, [])) e (said_again (hex_of bytes) [] (hex_plain bytes h) no_more) in
+    let w : word_at (32 ∷ hex_of bytes) ≡ Some (
+      hex_of bytes,
+      [],
+    ) = subst (λ (l : List ℕ). word_at (32 ∷ l) ≡ Some (
+      hex_of bytes,
+      [],
+    )) e (said_again (hex_of bytes) [] (hex_plain bytes h) no_more) in
     rw (w, end_again [] refl, hex_again (hex_of bytes) bytes (hex_spelled bytes h), lower_again bytes h) refl

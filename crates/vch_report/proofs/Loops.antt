@@ -26,21 +26,43 @@ use Rattle.vch_report.proofs.Wholes.{goes_on, lines_more, lines_none, read_again
 
 -- ---- lines
 
-pub fault_read : (n : ℕ) (d : Read) (l : List ℕ) (p : List (List ℕ) × List ℕ) (stop : Stop) (r : Result Read ℕ) → Gives {X = Draft} {Y = Read} kept (Err stop) (step_of d l) → read_text n d (with_line_before l p) ≡ r → Reads (Err (fault_at n stop)) r
+pub fault_read : (n : ℕ) (d : Read) (l : List ℕ) (p : List (List ℕ) × List ℕ) (stop : Stop) (r : Result Read ℕ)
+    → Gives {X = Draft} {Y = Read} kept (Err stop) (step_of d l) → read_text n d (with_line_before l p) ≡ r
+    → Reads (Err (fault_at n stop)) r
 fault_read n d l p stops.Memory r s e = tt
 fault_read n d l p stops.Fault r s e = sym e ∙ lines_more n d l p.0 p.1 ∙ ap (goes_on n p.0 p.1) s
 
-pub line_read : (n : ℕ) (d e : Read) (l : List ℕ) (p : List (List ℕ) × List ℕ) (r : Result Read ℕ) → step_of d l ≡ Some e → read_text n d (with_line_before l p) ≡ r → read_text (n + 1) e p ≡ r
+pub line_read : (n : ℕ) (d e : Read) (l : List ℕ) (p : List (List ℕ) × List ℕ) (r : Result Read ℕ)
+    → step_of d l ≡ Some e → read_text n d (with_line_before l p) ≡ r → read_text (n + 1) e p ≡ r
 line_read n d e l p r s h = sym (ap (goes_on n p.0 p.1) s) ∙ sym (lines_more n d l p.0 p.1) ∙ h
 
 pub end_read : (n : ℕ) (d : Read) (rest : List ℕ) → read_text n d ([], rest) ≡ finish n d rest
 end_read n d rest = lines_none n d rest
 
-pub start_read : (es : List Entry) (ts : List Total) (text : List ℕ) → es ≡ [] → ts ≡ [] → read_text 1 (record { place = places.Title; entries = es; totals = ts; vouchers = 0; values = 0 }) (split_of text) ≡ read_of text
+pub start_read : (es : List Entry) (ts : List Total) (text : List ℕ) → es ≡ [] → ts ≡ []
+    → read_text 1 (record {
+      place = places.Title;
+      entries = es;
+      totals = ts;
+      vouchers = 0;
+      values = 0;
+    }) (split_of text) ≡ read_of text
 unfolding read_of
 start_read es ts text e t =
-    ap (λ (x : List Entry). read_text 1 (record { place = places.Title; entries = x; totals = ts; vouchers = 0; values = 0 }) (split_of text)) e
-    ∙ ap (λ (x : List Total). read_text 1 (record { place = places.Title; entries = []; totals = x; vouchers = 0; values = 0 }) (split_of text)) t
+    ap (λ (x : List Entry). read_text 1 (record {
+      place = places.Title;
+      entries = x;
+      totals = ts;
+      vouchers = 0;
+      values = 0;
+    }) (split_of text)) e
+    ∙ ap (λ (x : List Total). read_text 1 (record {
+      place = places.Title;
+      entries = [];
+      totals = x;
+      vouchers = 0;
+      values = 0;
+    }) (split_of text)) t
 
 pub stopped_by : (f g : ReportFault) (r : Result Read ℕ) → f ≡ g → Reads (Err f) r → Reads (Err g) r
 stopped_by f g r e h = subst (λ (x : ReportFault). Reads (Err x) r) e h
@@ -66,9 +88,21 @@ few_total false d x e h f = absurd cc
 few_item : (p : Place) (d : Read) (i : Item) (e : Read) → with_item p d i ≡ Some e → Few d e
 few_item places.Title d items.Title e h = few_is d (record d { place = places.Entries }) e h (omega arith)
 few_item places.Entries d (items.Step y) e h = few_is d (record d { entries = d.entries ++ y ∷ [] }) e h (omega arith)
-few_item places.Entries d (items.Task t x) e h = few_total (eqb t (length d.totals + 1)) d (record d { place = places.Totals; totals = d.totals ++ x ∷ [] }) e h (omega (arith, length-append d.totals (x ∷ [])))
-few_item places.Totals d (items.Task t x) e h = few_total (eqb t (length d.totals + 1)) d (record d { place = places.Totals; totals = d.totals ++ x ∷ [] }) e h (omega (arith, length-append d.totals (x ∷ [])))
-few_item places.Totals d (items.Counts v w) e h = few_is d (record d { place = places.End; vouchers = v; values = w }) e h (omega arith)
+few_item places.Entries d (items.Task t x) e h = few_total (eqb t (length d.totals + 1)) d
+    (record d {
+      place = places.Totals;
+      totals = d.totals ++ x ∷ [];
+    }) e h (omega (arith, length-append d.totals (x ∷ [])))
+few_item places.Totals d (items.Task t x) e h = few_total (eqb t (length d.totals + 1)) d
+    (record d {
+      place = places.Totals;
+      totals = d.totals ++ x ∷ [];
+    }) e h (omega (arith, length-append d.totals (x ∷ [])))
+few_item places.Totals d (items.Counts v w) e h = few_is d (record d {
+  place = places.End;
+  vouchers = v;
+  values = w;
+}) e h (omega arith)
 few_item places.End d items.End e h = few_is d (record d { place = places.Done }) e h (omega arith)
 few_item p d i e h = absurd cc
 
@@ -95,7 +129,8 @@ pub found_by : (text : List ℕ) (x : Result Report ReportFault) → Reads x (re
 found_by text (Ok r) h = read_report text r h
 found_by text (Err e) h = tt
 
-pub only_by : (text : List ℕ) (x : Result Report ReportFault) (r : Report) → Reads x (read_of text) → IsReport text r → IsRead x r
+pub only_by : (text : List ℕ) (x : Result Report ReportFault) (r : Report) → Reads x (read_of text)
+    → IsReport text r → IsRead x r
 only_by text (Ok a) r h g = right_is a r (sym h ∙ read_again text r g)
 only_by text (Err faults.NoMemory) r h g = tt
 only_by text (Err (faults.At line)) r h g = let e = read_again text r g in absurd cc
@@ -105,37 +140,46 @@ fault_by text (Ok r) h = tt
 fault_by text (Err faults.NoMemory) h = tt
 fault_by text (Err (faults.At line)) h = read_fault text line h
 
-pub fault_only_by : (text : List ℕ) (x : Result Report ReportFault) (n : ℕ) → Reads x (read_of text) → IsFault text n → IsRefused x n
+pub fault_only_by : (text : List ℕ) (x : Result Report ReportFault) (n : ℕ) → Reads x (read_of text)
+    → IsFault text n → IsRefused x n
 fault_only_by text (Ok r) n h g = let e = fault_again text n g in absurd cc
 fault_only_by text (Err faults.NoMemory) n h g = tt
 fault_only_by text (Err (faults.At line)) n h g = wrong_is line n (read_of text) h (fault_again text n g)
 
 -- ---- what is written, one more at a time
 
-pub entry_next : (es : List Entry) (i : ℕ) (e : Entry) → slice_get es i ≡ Some e → flat_map entry_line (take (i + 1) es) ≡ flat_map entry_line (take i es) ++ entry_line e
+pub entry_next : (es : List Entry) (i : ℕ) (e : Entry) → slice_get es i ≡ Some e
+    → flat_map entry_line (take (i + 1) es) ≡ flat_map entry_line (take i es) ++ entry_line e
 entry_next [] i e h = absurd cc
 entry_next (x ∷ es) zero e h = let same : x ≡ e = cc in append-nil (entry_line x) ∙ ap (λ y. entry_line y) same
 entry_next (x ∷ es) (suc i) e h =
     let n : suc i + 1 ≡ suc (i + 1) = omega arith in
-    rw n (ap (λ l. entry_line x ++ l) (entry_next es i e h) ∙ sym (append_assoc (entry_line x) (flat_map entry_line (take i es)) (entry_line e)))
+    rw n (ap (λ l. entry_line x ++ l) (entry_next es i e h)
+    ∙ sym (append_assoc (entry_line x) (flat_map entry_line (take i es)) (entry_line e)))
 
-pub total_next : (ts : List Total) (t i : ℕ) (x : Total) → slice_get ts i ≡ Some x → total_lines t (take (i + 1) ts) ≡ total_lines t (take i ts) ++ total_line (t + i) x
+pub total_next : (ts : List Total) (t i : ℕ) (x : Total) → slice_get ts i ≡ Some x
+    → total_lines t (take (i + 1) ts) ≡ total_lines t (take i ts) ++ total_line (t + i) x
 total_next [] t i x h = absurd cc
-total_next (y ∷ ts) t zero x h = let same : y ≡ x = cc in let n : t ≡ t + 0 = omega arith in append-nil (total_line t y) ∙ ap (λ z. total_line t z) same ∙ ap (λ k. total_line k x) n
+total_next (y ∷ ts) t zero x h = let same : y ≡ x = cc in let n : t ≡ t + 0 = omega arith in
+    append-nil (total_line t y) ∙ ap (λ z. total_line t z) same ∙ ap (λ k. total_line k x) n
 total_next (y ∷ ts) t (suc i) x h =
     let n : suc i + 1 ≡ suc (i + 1) = omega arith in
     let k : t + 1 + i ≡ t + suc i = omega arith in
-    rw n (ap (λ l. total_line t y ++ l) (total_next ts (t + 1) i x h ∙ ap (λ m. total_lines (t + 1) (take i ts) ++ total_line m x) k) ∙ sym (append_assoc (total_line t y) (total_lines (t + 1) (take i ts)) (total_line (t + suc i) x)))
+    rw n (ap (λ l. total_line t y ++ l) (total_next ts (t + 1) i x h
+    ∙ ap (λ m. total_lines (t + 1) (take i ts) ++ total_line m x) k)
+    ∙ sym (append_assoc (total_line t y) (total_lines (t + 1) (take i ts)) (total_line (t + suc i) x)))
 
 pub pushed : (old x y z mid new : List ℕ) → mid ≡ old ++ x → new ≡ mid ++ y → z ≡ x ++ y → new ≡ old ++ z
 pushed old x y z mid new m n e = n ∙ ap (λ l. l ++ y) m ∙ append_assoc old x y ∙ ap (λ l. old ++ l) (sym e)
 
-pub task_first : (ts : List ℕ) (i t : ℕ) → i < length ts → t ≡ slice_index ts i → i ≤ 0 → chain_text (take (i + 1) ts) ≡ chain_text (take i ts) ++ decimal t
+pub task_first : (ts : List ℕ) (i t : ℕ) → i < length ts → t ≡ slice_index ts i → i ≤ 0
+    → chain_text (take (i + 1) ts) ≡ chain_text (take i ts) ++ decimal t
 task_first [] i t lt e le = absurd (omega arith)
 task_first (x ∷ ts) zero t lt e le = ap (λ (n : ℕ). decimal n) (sym e)
 task_first (x ∷ ts) (suc i) t lt e le = absurd (omega arith)
 
-pub task_next : (ts : List ℕ) (i t : ℕ) → i < length ts → t ≡ slice_index ts i → 0 < i → chain_text (take (i + 1) ts) ≡ (chain_text (take i ts) ++ codes ",") ++ decimal t
+pub task_next : (ts : List ℕ) (i t : ℕ) → i < length ts → t ≡ slice_index ts i → 0 < i
+    → chain_text (take (i + 1) ts) ≡ (chain_text (take i ts) ++ codes ",") ++ decimal t
 task_next [] i t lt e some = absurd (omega arith)
 task_next (x ∷ ts) zero t lt e some = absurd (omega arith)
 task_next (x ∷ []) (suc i) t lt e some = absurd (omega arith)
@@ -150,12 +194,16 @@ task_next (x ∷ y ∷ ts) (suc (suc i)) t lt e some =
     regroup : (a b c : List ℕ) → a ++ (44 ∷ ((b ++ codes ",") ++ c)) ≡ ((a ++ (44 ∷ b)) ++ codes ",") ++ c
     regroup a b c = simp append_assoc
 
-pub written : (r : Report) (o0 o1 o2 o3 o4 : List ℕ) → o0 ≡ [] → o1 ≡ o0 ++ codes "report 1\n" → o2 ≡ o1 ++ flat_map entry_line r.history.entries → o3 ≡ o2 ++ total_lines 1 r.totals → o4 ≡ o3 ++ last_lines r.vouchers r.values → o4 ≡ text_of r
+pub written : (r : Report) (o0 o1 o2 o3 o4 : List ℕ) → o0 ≡ [] → o1 ≡ o0 ++ codes "report 1\n"
+    → o2 ≡ o1 ++ flat_map entry_line r.history.entries → o3 ≡ o2 ++ total_lines 1 r.totals
+    → o4 ≡ o3 ++ last_lines r.vouchers r.values → o4 ≡ text_of r
 unfolding report_text
 written r o0 o1 o2 o3 o4 h0 h1 h2 h3 h4 =
-    h4 ∙ ap (λ l. l ++ last_lines r.vouchers r.values) (h3 ∙ ap (λ l. l ++ total_lines 1 r.totals) (h2 ∙ ap (λ l. l ++ flat_map entry_line r.history.entries) (h1 ∙ ap (λ l. l ++ codes "report 1\n") h0)))
+    h4 ∙ ap (λ l. l ++ last_lines r.vouchers r.values) (h3 ∙ ap (λ l. l ++ total_lines 1 r.totals) (h2
+    ∙ ap (λ l. l ++ flat_map entry_line r.history.entries) (h1 ∙ ap (λ l. l ++ codes "report 1\n") h0)))
 
-pub pushed_next : (old a comma d text out mid new : List ℕ) → out ≡ old ++ a → mid ≡ out ++ comma → new ≡ mid ++ d → text ≡ (a ++ comma) ++ d → new ≡ old ++ text
+pub pushed_next : (old a comma d text out mid new : List ℕ) → out ≡ old ++ a → mid ≡ out ++ comma → new ≡ mid ++ d
+    → text ≡ (a ++ comma) ++ d → new ≡ old ++ text
 pushed_next old a comma d text out mid new h m n e =
     n ∙ ap (λ l. l ++ d) (m ∙ ap (λ l. l ++ comma) h) ∙ regroup ∙ ap (λ l. old ++ l) (sym e)
   where

@@ -46,7 +46,8 @@ digit_own c v e low =
 
 -- ---- pairs of digits
 
-bind_ok : {A B : Type 0} (r : Result A FromHexError) (f : A → Result B FromHexError) (y : B) → (r >>= f) ≡ Ok y → (x : A) × (r ≡ Ok x) × (f x ≡ Ok y)
+bind_ok : {A B : Type 0} (r : Result A FromHexError) (f : A → Result B FromHexError) (y : B) → (r >>= f) ≡ Ok y
+    → (x : A) × (r ≡ Ok x) × (f x ≡ Ok y)
 bind_ok (Ok x) f y e = (x, refl, e)
 bind_ok (Err d) f y e = absurd cc
 
@@ -72,11 +73,13 @@ pair_own high low h l byte a b e =
     let q : byte % 16 ≡ l = omega (arith, a.0, b.0) in
     record { first = rw p (sym a.1); second = rw q (sym b.1); small = omega (arith, a.0, b.0) }
 
-pair_told : (high low i byte : ℕ) → pair_value high low i ≡ Ok byte → is_ascii_uppercase high ≡ false → is_ascii_uppercase low ≡ false → Pair high low byte
+pair_told : (high low i byte : ℕ) → pair_value high low i ≡ Ok byte → is_ascii_uppercase high ≡ false
+    → is_ascii_uppercase low ≡ false → Pair high low byte
 pair_told high low i byte e hl ll =
     let a = bind_ok (value_at high i) (λ h. value_at low (i + 1) >>= λ l. Ok (h * 16 + l)) byte e in
     let b = bind_ok (value_at low (i + 1)) (λ l. Ok (a.0 * 16 + l)) byte a.2 in
-    pair_own high low a.0 b.0 byte (digit_own high a.0 (by_value high i (hex_digit_value high) a.0 a.1) hl) (digit_own low b.0 (by_value low (i + 1) (hex_digit_value low) b.0 b.1) ll) (right_is (a.0 * 16 + b.0) byte b.2)
+    pair_own high low a.0 b.0 byte (digit_own high a.0 (by_value high i (hex_digit_value high) a.0 a.1) hl)
+    (digit_own low b.0 (by_value low (i + 1) (hex_digit_value low) b.0 b.1) ll) (right_is (a.0 * 16 + b.0) byte b.2)
 
 IsBytes-cons : (b : ℕ) (bytes : List ℕ) → b < 256 → IsBytes bytes → IsBytes (b ∷ bytes)
 IsBytes-cons b bytes lt h zero = lt
@@ -107,7 +110,8 @@ pairs_told i (h ∷ l ∷ rest) bytes e low =
     let b = bind_ok (decode_pairs (i + 2) rest) (λ more. Ok (a.0 ∷ more)) bytes a.2 in
     let p = and_parts (not (is_ascii_uppercase h)) (not (is_ascii_uppercase l) && is_lower rest) low in
     let q = and_parts (not (is_ascii_uppercase l)) (is_lower rest) p.1 in
-    let pair = pair_told h l i a.0 a.1 (not_capital (is_ascii_uppercase h) p.0) (not_capital (is_ascii_uppercase l) q.0) in
+    let pair = pair_told h l i a.0 a.1 (not_capital (is_ascii_uppercase h) p.0) (not_capital
+    (is_ascii_uppercase l) q.0) in
     let rec = pairs_told (i + 2) rest b.0 b.1 q.1 in
     let x = pair.first in
     let y = pair.second in
@@ -116,7 +120,8 @@ pairs_told i (h ∷ l ∷ rest) bytes e low =
 
 -- ---- a word
 
-not_odd : (b : Bool) (d : FromHexError) (r : Result (List ℕ) FromHexError) (bytes : List ℕ) → cond b (Err d) r ≡ Ok bytes → r ≡ Ok bytes
+not_odd : (b : Bool) (d : FromHexError) (r : Result (List ℕ) FromHexError) (bytes : List ℕ)
+    → cond b (Err d) r ≡ Ok bytes → r ≡ Ok bytes
 not_odd true d r bytes e = absurd cc
 not_odd false d r bytes e = e
 
@@ -132,12 +137,14 @@ pub lower_told : (w bytes : List ℕ) → IsHex w bytes → is_lower w ≡ true 
 lower_told w bytes h low =
     elim h [
       | inl p ↦ dash_is w bytes p.0 p.1
-      | inr p ↦ digits_are w bytes p.0 (pairs_told 0 w bytes (not_odd (eqb (length w % 2) 1) OddLength (decode_pairs 0 w) bytes p.1) low)
+      | inr p ↦ digits_are w bytes p.0 (pairs_told 0 w bytes (not_odd (eqb (length w % 2) 1) OddLength
+          (decode_pairs 0 w) bytes p.1) low)
     ]
 
 lower_at : (t : List ℕ) (k : ℕ) → is_lower t ≡ true → k < length t → is_ascii_uppercase (get_or t k 0) ≡ false
 lower_at [] k h lt = absurd (omega arith)
-lower_at (c ∷ t) zero h lt = not_capital (is_ascii_uppercase c) (and_parts (not (is_ascii_uppercase c)) (is_lower t) h).0
+lower_at (c ∷ t) zero h lt = not_capital (is_ascii_uppercase c) (and_parts (not (is_ascii_uppercase c))
+    (is_lower t) h).0
 lower_at (c ∷ t) (suc k) h lt = lower_at t k (and_parts (not (is_ascii_uppercase c)) (is_lower t) h).1 (omega arith)
 
 IsBytes-rest : (b : ℕ) (bytes : List ℕ) → IsBytes (b ∷ bytes) → IsBytes bytes
@@ -150,7 +157,11 @@ encoded_lower (b ∷ bytes) h =
     let small : b < 256 = h 0 in
     let high : b / 16 < length lower_digits = omega arith in
     let low : b % 16 < length lower_digits = omega arith in
-    rw (lower_at lower_digits (b / 16) refl high, lower_at lower_digits (b % 16) refl low, encoded_lower bytes (IsBytes-rest b bytes h)) refl
+    rw (
+      lower_at lower_digits (b / 16) refl high,
+      lower_at lower_digits (b % 16) refl low,
+      encoded_lower bytes (IsBytes-rest b bytes h),
+    ) refl
 
 pub lower_again : (bytes : List ℕ) → IsBytes bytes → is_lower (hex_of bytes) ≡ true
 lower_again [] h = refl

@@ -29,8 +29,10 @@ abbrev pub items_to : Place → Read → List Item
 items_to places.Title d = []
 items_to places.Entries d = items.Title ∷ step_items d.entries
 items_to places.Totals d = items.Title ∷ (step_items d.entries ++ task_items 1 d.totals)
-items_to places.End d = items.Title ∷ (step_items d.entries ++ (task_items 1 d.totals ++ items.Counts d.vouchers d.values ∷ []))
-items_to places.Done d = items.Title ∷ (step_items d.entries ++ (task_items 1 d.totals ++ items.Counts d.vouchers d.values ∷ items.End ∷ []))
+items_to places.End d = items.Title ∷ (step_items d.entries ++
+    (task_items 1 d.totals ++ items.Counts d.vouchers d.values ∷ []))
+items_to places.Done d = items.Title ∷ (step_items d.entries ++
+    (task_items 1 d.totals ++ items.Counts d.vouchers d.values ∷ items.End ∷ []))
 
 -- the items that were read
 abbrev pub items_read : Read → List Item
@@ -63,11 +65,14 @@ steps_push : (es : List Entry) (e : Entry) → step_items (es ++ e ∷ []) ≡ s
 steps_push [] e = refl
 steps_push (x ∷ es) e = ap (λ l. items.Step x ∷ l) (steps_push es e)
 
-tasks_push : (t : ℕ) (xs : List Total) (x : Total) → task_items t (xs ++ x ∷ []) ≡ task_items t xs ++ items.Task (t + length xs) x ∷ []
+tasks_push : (t : ℕ) (xs : List Total) (x : Total)
+    → task_items t (xs ++ x ∷ []) ≡ task_items t xs ++ items.Task (t + length xs) x ∷ []
 tasks_push t [] x = let e : t ≡ t + 0 = omega arith in ap (λ n. items.Task n x ∷ []) e
-tasks_push t (y ∷ xs) x = let e : t + 1 + length xs ≡ t + length (y ∷ xs) = omega arith in ap (λ l. items.Task t y ∷ l) (tasks_push (t + 1) xs x ∙ ap (λ n. task_items (t + 1) xs ++ items.Task n x ∷ []) e)
+tasks_push t (y ∷ xs) x = let e : t + 1 + length xs ≡ t + length (y ∷ xs) = omega arith in
+    ap (λ l. items.Task t y ∷ l) (tasks_push (t + 1) xs x ∙ ap (λ n. task_items (t + 1) xs ++ items.Task n x ∷ []) e)
 
-all_push : {X : Type 0} (P : X → Type 0) (xs : List X) (x : X) → AllByRecursion P xs → P x → AllByRecursion P (xs ++ x ∷ [])
+all_push : {X : Type 0} (P : X → Type 0) (xs : List X) (x : X) → AllByRecursion P xs → P x
+    → AllByRecursion P (xs ++ x ∷ [])
 all_push P [] x h p = (p, tt)
 all_push P (y ∷ xs) x h p = (h.0, all_push P xs x h.1 p)
 
@@ -82,13 +87,17 @@ pub record Gone (p : Place) (d : Read) (i : Item) (e : Read) : Type 0 where
   pub good : IsGood e
   pub items : items_read e ≡ items_to p d ++ i ∷ []
 
-first_total : (d : Read) (t : ℕ) (x : Total) → t ≡ length d.totals + 1 → GoodAt places.Entries d → IsItem (items.Task t x) → Gone places.Entries d (items.Task t x) (record d { place = places.Totals; totals = d.totals ++ x ∷ [] })
+first_total : (d : Read) (t : ℕ) (x : Total) → t ≡ length d.totals + 1 → GoodAt places.Entries d
+    → IsItem (items.Task t x)
+    → Gone places.Entries d (items.Task t x) (record d { place = places.Totals; totals = d.totals ++ x ∷ [] })
 first_total d t x n g h = record {
   good = record { entries = g.0; totals = rw g.1 (h.1, tt); some = rw g.1 (omega arith); few = rw g.1 (omega arith) };
   items = let one : t ≡ 1 = omega (arith, ap length g.1) in rw (g.1, one) refl;
 }
 
-next_total : (d : Read) (t : ℕ) (x : Total) → t ≡ length d.totals + 1 → Listed d.entries d.totals → IsItem (items.Task t x) → Gone places.Totals d (items.Task t x) (record d { place = places.Totals; totals = d.totals ++ x ∷ [] })
+next_total : (d : Read) (t : ℕ) (x : Total) → t ≡ length d.totals + 1 → Listed d.entries d.totals
+    → IsItem (items.Task t x)
+    → Gone places.Totals d (items.Task t x) (record d { place = places.Totals; totals = d.totals ++ x ∷ [] })
 next_total d t x n g h = record {
   good = record {
     entries = g.entries;
@@ -98,8 +107,12 @@ next_total d t x n g h = record {
   };
   items =
       let k : 1 + length d.totals ≡ t = omega arith in
-      let more : task_items 1 (d.totals ++ x ∷ []) ≡ task_items 1 d.totals ++ items.Task t x ∷ [] = tasks_push 1 d.totals x ∙ ap (λ m. task_items 1 d.totals ++ items.Task m x ∷ []) k in
-      ap (λ l. items.Title ∷ (step_items d.entries ++ l)) more ∙ ap (λ l. items.Title ∷ l) (sym (append_assoc (step_items d.entries) (task_items 1 d.totals) (items.Task t x ∷ [])));
+      let more : task_items 1
+      (d.totals ++ x ∷ []) ≡ task_items 1 d.totals ++ items.Task t x ∷ [] = tasks_push 1 d.totals x
+      ∙ ap (λ m. task_items 1 d.totals ++ items.Task m x ∷ []) k in
+      ap (λ l. items.Title ∷ (step_items d.entries ++ l)) more
+      ∙ ap (λ l. items.Title ∷ l)
+      (sym (append_assoc (step_items d.entries) (task_items 1 d.totals) (items.Task t x ∷ [])));
 }
 
 total_told : (P : Read → Type 0) (b : Bool) (d e : Read) → cond b (found d) None ≡ Some e → (b ≡ true → P d) → P e
@@ -109,27 +122,49 @@ total_told P false d e s p = absurd cc
 test_true : (a b : ℕ) → eqb a b ≡ true → a ≡ b
 test_true a b e = grind (arith, common_steps)
 
-with_told : (p : Place) (d : Read) (i : Item) (e : Read) → d.place ≡ p → GoodAt p d → IsItem i → with_item p d i ≡ Some e → Gone p d i e
+with_told : (p : Place) (d : Read) (i : Item) (e : Read) → d.place ≡ p → GoodAt p d → IsItem i
+    → with_item p d i ≡ Some e → Gone p d i e
 with_told places.Title d items.Title e at g h s =
-    found_is (λ x. Gone places.Title d items.Title x) (record d { place = places.Entries }) e s (record { good = (rw g.0 tt, g.1); items = rw g.0 refl })
+    found_is (λ x. Gone places.Title d items.Title x) (record d { place = places.Entries }) e s
+    (record { good = (rw g.0 tt, g.1); items = rw g.0 refl })
 with_told places.Entries d (items.Step y) e at g h s =
     found_is (λ x. Gone places.Entries d (items.Step y) x) (record d { entries = d.entries ++ y ∷ [] }) e s
-    (record { good = rw at (all_push IsEntry d.entries y g.0 h, g.1); items = rw at (ap (λ l. items.Title ∷ l) (steps_push d.entries y)) })
+    (record {
+      good = rw at (all_push IsEntry d.entries y g.0 h, g.1);
+      items = rw at (ap (λ l. items.Title ∷ l) (steps_push d.entries y));
+    })
 with_told places.Entries d (items.Task t x) e at g h s =
-    total_told (λ y. Gone places.Entries d (items.Task t x) y) (eqb t (length d.totals + 1)) (record d { place = places.Totals; totals = d.totals ++ x ∷ [] }) e s (λ n. first_total d t x (test_true t (length d.totals + 1) n) g h)
+    total_told (λ y. Gone places.Entries d (items.Task t x) y) (eqb t (length d.totals + 1))
+    (record d {
+      place = places.Totals;
+      totals = d.totals ++ x ∷ [];
+    }) e s (λ n. first_total d t x (test_true t (length d.totals + 1) n) g h)
 with_told places.Totals d (items.Task t x) e at g h s =
-    total_told (λ y. Gone places.Totals d (items.Task t x) y) (eqb t (length d.totals + 1)) (record d { place = places.Totals; totals = d.totals ++ x ∷ [] }) e s (λ n. next_total d t x (test_true t (length d.totals + 1) n) g h)
+    total_told (λ y. Gone places.Totals d (items.Task t x) y) (eqb t (length d.totals + 1))
+    (record d {
+      place = places.Totals;
+      totals = d.totals ++ x ∷ [];
+    }) e s (λ n. next_total d t x (test_true t (length d.totals + 1) n) g h)
 with_told places.Totals d (items.Counts v w) e at g h s =
-    found_is (λ x. Gone places.Totals d (items.Counts v w) x) (record d { place = places.End; vouchers = v; values = w }) e s
+    found_is (λ x. Gone places.Totals d (items.Counts v w) x) (record d {
+      place = places.End;
+      vouchers = v;
+      values = w;
+    }) e s
     (record {
       good = record { listed = g; vouchers = h.0; values = h.1 };
-      items = ap (λ l. items.Title ∷ l) (sym (append_assoc (step_items d.entries) (task_items 1 d.totals) (items.Counts v w ∷ [])));
+      items = ap (λ l. items.Title ∷ l)
+          (sym (append_assoc (step_items d.entries) (task_items 1 d.totals) (items.Counts v w ∷ [])));
     })
 with_told places.End d items.End e at g h s =
     found_is (λ x. Gone places.End d items.End x) (record d { place = places.Done }) e s
     (record {
       good = record { listed = g.listed; vouchers = g.vouchers; values = g.values };
-      items = ap (λ l. items.Title ∷ l) (ap (λ l. step_items d.entries ++ l) (sym (append_assoc (task_items 1 d.totals) (items.Counts d.vouchers d.values ∷ []) (items.End ∷ []))) ∙ sym (append_assoc (step_items d.entries) (task_items 1 d.totals ++ items.Counts d.vouchers d.values ∷ []) (items.End ∷ [])));
+      items = ap (λ l. items.Title ∷ l) (ap
+          (λ l. step_items d.entries ++ l)
+          (sym (append_assoc (task_items 1 d.totals) (items.Counts d.vouchers d.values ∷ []) (items.End ∷ [])))
+          ∙ sym (append_assoc (step_items d.entries)
+          (task_items 1 d.totals ++ items.Counts d.vouchers d.values ∷ []) (items.End ∷ [])));
     })
 with_told p d i e at g h s = absurd cc
 
@@ -151,7 +186,8 @@ abbrev pub run : Read → List Item → Option Read
 run d [] = Some d
 run d (i ∷ is) = with_item d.place d i >>= λ e. run e is
 
-bind_some : {A B : Type 0} (r : Option A) (f : A → Option B) (y : B) → (r >>= f) ≡ Some y → (x : A) × (r ≡ Some x) × (f x ≡ Some y)
+bind_some : {A B : Type 0} (r : Option A) (f : A → Option B) (y : B) → (r >>= f) ≡ Some y
+    → (x : A) × (r ≡ Some x) × (f x ≡ Some y)
 bind_some (Some x) f y e = (x, refl, e)
 bind_some None f y e = absurd cc
 
@@ -166,13 +202,18 @@ step_told d e l g s =
     let b = bind_some (item_of l) (λ i. with_item d.place d i) e s in
     let t = item_told l b.0 b.1 in
     let w = with_told d.place d b.0 e refl g t.good b.2 in
-    record { good = w.good; lines = ap item_lines w.items ∙ lines_append (items_read d) (b.0 ∷ []) ∙ ap (λ x. item_lines (items_read d) ++ x ∷ []) (sym t.text) }
+    record {
+      good = w.good;
+      lines = ap item_lines w.items ∙ lines_append (items_read d) (b.0 ∷ [])
+          ∙ ap (λ x. item_lines (items_read d) ++ x ∷ []) (sym t.text);
+    }
 
 pub step_again : (d : Read) (i : Item) → IsItem i → step_of d (item_text i) ≡ with_item d.place d i
 unfolding step_of
 step_again d i h = rw (item_again i h) refl
 
-by_item : (r : Option Read) (js : List Item) → ((e : Read) → go e (item_lines js) ≡ run e js) → (r >>= λ e. go e (item_lines js)) ≡ (r >>= λ e. run e js)
+by_item : (r : Option Read) (js : List Item) → ((e : Read) → go e (item_lines js) ≡ run e js)
+    → (r >>= λ e. go e (item_lines js)) ≡ (r >>= λ e. run e js)
 by_item (Some e) js rec = rec e
 by_item None js rec = refl
 
@@ -180,7 +221,8 @@ pub run_lines : (d : Read) (is : List Item) → AllByRecursion IsItem is → go 
 run_lines d [] h = refl
 run_lines d (i ∷ is) h = rw (step_again d i h.0) (by_item (with_item d.place d i) is (λ e. run_lines e is h.1))
 
-go_from : (r : Option Read) (xs ys : List (List ℕ)) → ((e : Read) → go e (xs ++ ys) ≡ (go e xs >>= λ x. go x ys)) → (r >>= λ e. go e (xs ++ ys)) ≡ ((r >>= λ e. go e xs) >>= λ x. go x ys)
+go_from : (r : Option Read) (xs ys : List (List ℕ)) → ((e : Read) → go e (xs ++ ys) ≡ (go e xs >>= λ x. go x ys))
+    → (r >>= λ e. go e (xs ++ ys)) ≡ ((r >>= λ e. go e xs) >>= λ x. go x ys)
 go_from (Some e) xs ys rec = rec e
 go_from None xs ys rec = refl
 
@@ -194,12 +236,19 @@ pub record Went (d : Read) (lines : List (List ℕ)) (e : Read) : Type 0 where
   pub spelled : item_lines (items_read e) ≡ item_lines (items_read d) ++ lines
 
 pub go_told : (d e : Read) (lines : List (List ℕ)) → IsGood d → go d lines ≡ Some e → Went d lines e
-go_told d e [] g s = found_is (λ x. Went d [] x) d e s (record { good = g; spelled = sym (append-nil (item_lines (items_read d))) })
+go_told d e [] g s = found_is (λ x. Went d [] x) d e s (record {
+  good = g;
+  spelled = sym (append-nil (item_lines (items_read d)));
+})
 go_told d e (l ∷ ls) g s =
     let b = bind_some (step_of d l) (λ x. go x ls) e s in
     let t = step_told d b.0 l g b.1 in
     let w = go_told b.0 e ls t.good b.2 in
-    record { good = w.good; spelled = w.spelled ∙ ap (λ x. x ++ ls) t.lines ∙ append_assoc (item_lines (items_read d)) (l ∷ []) ls }
+    record {
+      good = w.good;
+      spelled = w.spelled ∙ ap (λ x. x ++ ls) t.lines
+          ∙ append_assoc (item_lines (items_read d)) (l ∷ []) ls;
+    }
 
 -- ---- the items of a whole report lead to it
 
@@ -212,34 +261,42 @@ at_totals es ts = record { place = places.Totals; entries = es; totals = ts; vou
 abbrev pub done : List Entry → List Total → ℕ → ℕ → Read
 done es ts v w = record { place = places.Done; entries = es; totals = ts; vouchers = v; values = w }
 
-run_steps : (es xs : List Entry) (js : List Item) → run (at_entries es) (step_items xs ++ js) ≡ run (at_entries (es ++ xs)) js
+run_steps : (es xs : List Entry) (js : List Item)
+    → run (at_entries es) (step_items xs ++ js) ≡ run (at_entries (es ++ xs)) js
 run_steps es [] js = ap (λ l. run (at_entries l) js) (sym (append-nil es))
-run_steps es (x ∷ xs) js = run_steps (es ++ x ∷ []) xs js ∙ ap (λ l. run (at_entries l) js) (append_assoc es (x ∷ []) xs)
+run_steps es (x ∷ xs) js = run_steps (es ++ x ∷ []) xs js
+    ∙ ap (λ l. run (at_entries l) js) (append_assoc es (x ∷ []) xs)
 
-total_goes : (d : Read) (t : ℕ) (x : Total) → t ≡ length d.totals + 1 → with_total d t x ≡ Some (record d { place = places.Totals; totals = d.totals ++ x ∷ [] })
+total_goes : (d : Read) (t : ℕ) (x : Total) → t ≡ length d.totals + 1
+    → with_total d t x ≡ Some (record d { place = places.Totals; totals = d.totals ++ x ∷ [] })
 total_goes d t x e = let yes : eqb t (length d.totals + 1) ≡ true = grind (arith, common_steps) in rw yes refl
 
-run_totals : (es : List Entry) (ts xs : List Total) (t : ℕ) (js : List Item) → t ≡ length ts + 1 → run (at_totals es ts) (task_items t xs ++ js) ≡ run (at_totals es (ts ++ xs)) js
+run_totals : (es : List Entry) (ts xs : List Total) (t : ℕ) (js : List Item) → t ≡ length ts + 1
+    → run (at_totals es ts) (task_items t xs ++ js) ≡ run (at_totals es (ts ++ xs)) js
 run_totals es ts [] t js e = ap (λ l. run (at_totals es l) js) (sym (append-nil ts))
 run_totals es ts (x ∷ xs) t js e =
     let n : t + 1 ≡ length (ts ++ x ∷ []) + 1 = omega (arith, length-append ts (x ∷ [])) in
-    rw (total_goes (at_totals es ts) t x e) (run_totals es (ts ++ x ∷ []) xs (t + 1) js n ∙ ap (λ l. run (at_totals es l) js) (append_assoc ts (x ∷ []) xs))
+    rw (total_goes (at_totals es ts) t x e) (run_totals es (ts ++ x ∷ []) xs (t + 1) js n
+    ∙ ap (λ l. run (at_totals es l) js) (append_assoc ts (x ∷ []) xs))
 
-run_tasks : (es : List Entry) (ts : List Total) (js : List Item) → 1 ≤ length ts → run (at_entries es) (task_items 1 ts ++ js) ≡ run (at_totals es ts) js
+run_tasks : (es : List Entry) (ts : List Total) (js : List Item) → 1 ≤ length ts
+    → run (at_entries es) (task_items 1 ts ++ js) ≡ run (at_totals es ts) js
 run_tasks es [] js some = absurd (omega arith)
 run_tasks es (x ∷ ts) js some = run_totals es (x ∷ []) ts 2 js refl
 
 abbrev pub items_of : List Entry → List Total → ℕ → ℕ → List Item
 items_of es ts v w = items_read (done es ts v w)
 
-pub run_whole : (es : List Entry) (ts : List Total) (v w : ℕ) → 1 ≤ length ts → run nothing (items_of es ts v w) ≡ Some (done es ts v w)
+pub run_whole : (es : List Entry) (ts : List Total) (v w : ℕ) → 1 ≤ length ts
+    → run nothing (items_of es ts v w) ≡ Some (done es ts v w)
 run_whole es ts v w some =
     let js = items.Counts v w ∷ items.End ∷ [] in
     run_steps [] es (task_items 1 ts ++ js) ∙ run_tasks es ts js some
 
 -- ---- its items are good
 
-all_append : (is js : List Item) → AllByRecursion IsItem is → AllByRecursion IsItem js → AllByRecursion IsItem (is ++ js)
+all_append : (is js : List Item) → AllByRecursion IsItem is → AllByRecursion IsItem js
+    → AllByRecursion IsItem (is ++ js)
 all_append [] js h g = g
 all_append (i ∷ is) js h g = (h.0, all_append is js h.1 g)
 
@@ -247,20 +304,27 @@ all_steps : (es : List Entry) → AllByRecursion IsEntry es → AllByRecursion I
 all_steps [] h = tt
 all_steps (e ∷ es) h = (h.0, all_steps es h.1)
 
-all_tasks : (t : ℕ) (ts : List Total) → 1 ≤ t → t + length ts ≤ 2 ^ 32 → AllByRecursion IsTotal ts → AllByRecursion IsItem (task_items t ts)
+all_tasks : (t : ℕ) (ts : List Total) → 1 ≤ t → t + length ts ≤ 2 ^ 32 → AllByRecursion IsTotal ts
+    → AllByRecursion IsItem (task_items t ts)
 all_tasks t [] some few h = tt
 all_tasks t (x ∷ ts) some few h = (((some, omega arith), h.0), all_tasks (t + 1) ts (omega arith) (omega arith) h.1)
 
-pub all_items : (es : List Entry) (ts : List Total) (v w : ℕ) → Counted es ts v w → AllByRecursion IsItem (items_of es ts v w)
+pub all_items : (es : List Entry) (ts : List Total) (v w : ℕ) → Counted es ts v w
+    → AllByRecursion IsItem (items_of es ts v w)
 all_items es ts v w g = (
   tt,
   all_append (step_items es) (task_items 1 ts ++ items.Counts v w ∷ items.End ∷ []) (all_steps es g.listed.entries)
-      (all_append (task_items 1 ts) (items.Counts v w ∷ items.End ∷ []) (all_tasks 1 ts (omega arith) (omega (arith, g.listed.few)) g.listed.totals) ((g.vouchers, g.values), (tt, tt))),
+      (all_append (task_items 1 ts) (items.Counts v w ∷ items.End ∷ []) (all_tasks 1 ts (omega arith) (omega (
+        arith,
+        g.listed.few,
+      )) g.listed.totals) ((g.vouchers, g.values), (tt, tt))),
 )
 
 -- the lines of a good report lead to it
-pub go_whole : (es : List Entry) (ts : List Total) (v w : ℕ) → Counted es ts v w → go nothing (item_lines (items_of es ts v w)) ≡ Some (done es ts v w)
-go_whole es ts v w g = run_lines nothing (items_of es ts v w) (all_items es ts v w g) ∙ run_whole es ts v w g.listed.some
+pub go_whole : (es : List Entry) (ts : List Total) (v w : ℕ) → Counted es ts v w
+    → go nothing (item_lines (items_of es ts v w)) ≡ Some (done es ts v w)
+go_whole es ts v w g = run_lines nothing (items_of es ts v w) (all_items es ts v w g)
+    ∙ run_whole es ts v w g.listed.some
 
 -- ---- what was read is the beginning of a report
 
@@ -278,13 +342,38 @@ abbrev none : Total
 none = record { ledger = 0; held = 0; out = 0 }
 
 one_task : (es : List Entry) → AllByRecursion IsEntry es → Counted es (none ∷ []) 0 0
-one_task es h = record { listed = record { entries = h; totals = ((omega arith, omega arith, omega arith), tt); some = omega arith; few = omega arith }; vouchers = omega arith; values = omega arith }
+one_task es h = record {
+  listed = record {
+    entries = h;
+    totals = ((omega arith, omega arith, omega arith), tt);
+    some = omega arith;
+    few = omega arith;
+  };
+  vouchers = omega arith;
+  values = omega arith;
+}
 
 ended_at : (p : Place) (d : Read) → d.place ≡ p → GoodAt p d → Ended d
 ended_at places.Title d at g =
-    record { entries = []; totals = none ∷ []; vouchers = 0; values = 0; good = one_task [] tt; more = items_of [] (none ∷ []) 0 0; items = rw at refl }
+    record {
+      entries = [];
+      totals = none ∷ [];
+      vouchers = 0;
+      values = 0;
+      good = one_task [] tt;
+      more = items_of [] (none ∷ []) 0 0;
+      items = rw at refl;
+    }
 ended_at places.Entries d at g =
-    record { entries = d.entries; totals = none ∷ []; vouchers = 0; values = 0; good = one_task d.entries g.0; more = items.Task 1 none ∷ items.Counts 0 0 ∷ items.End ∷ []; items = rw at refl }
+    record {
+      entries = d.entries;
+      totals = none ∷ [];
+      vouchers = 0;
+      values = 0;
+      good = one_task d.entries g.0;
+      more = items.Task 1 none ∷ items.Counts 0 0 ∷ items.End ∷ [];
+      items = rw at refl;
+    }
 ended_at places.Totals d at g =
     record {
       entries = d.entries;
@@ -293,7 +382,8 @@ ended_at places.Totals d at g =
       values = 0;
       good = record { listed = g; vouchers = omega arith; values = omega arith };
       more = items.Counts 0 0 ∷ items.End ∷ [];
-      items = rw at (ap (λ l. items.Title ∷ l) (sym (append_assoc (step_items d.entries) (task_items 1 d.totals) (items.Counts 0 0 ∷ items.End ∷ []))));
+      items = rw at (ap (λ l. items.Title ∷ l)
+          (sym (append_assoc (step_items d.entries) (task_items 1 d.totals) (items.Counts 0 0 ∷ items.End ∷ []))));
     }
 ended_at places.End d at g =
     record {
@@ -303,7 +393,11 @@ ended_at places.End d at g =
       values = d.values;
       good = record { listed = g.listed; vouchers = g.vouchers; values = g.values };
       more = items.End ∷ [];
-      items = rw at (ap (λ l. items.Title ∷ l) (ap (λ l. step_items d.entries ++ l) (sym (append_assoc (task_items 1 d.totals) (items.Counts d.vouchers d.values ∷ []) (items.End ∷ []))) ∙ sym (append_assoc (step_items d.entries) (task_items 1 d.totals ++ items.Counts d.vouchers d.values ∷ []) (items.End ∷ []))));
+      items = rw at (ap (λ l. items.Title ∷ l) (ap
+          (λ l. step_items d.entries ++ l)
+          (sym (append_assoc (task_items 1 d.totals) (items.Counts d.vouchers d.values ∷ []) (items.End ∷ [])))
+          ∙ sym (append_assoc (step_items d.entries)
+          (task_items 1 d.totals ++ items.Counts d.vouchers d.values ∷ []) (items.End ∷ []))));
     }
 ended_at places.Done d at g =
     record {

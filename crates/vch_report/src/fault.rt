@@ -4,12 +4,13 @@ ghost use Rattle.vch_report.specs.declared.fault.Stop.TheVariants.{Memory};
 use thiserror::Error;
 use vch_base::NoMemory;
 
-/// Why a text is no report.
+/// Why there is no report of a text.
 #[derive(Clone, Copy, Debug, PartialEq, Eq, Error)]
 pub enum ReportFault {
     /// The first line that can't stand at its place, counted from 1.
     #[error("fault report line {line}")]
     At { line: u32 },
+    /// Memory ran out. It says nothing of the text.
     #[error("no memory")]
     NoMemory,
 }
@@ -19,6 +20,7 @@ pub enum ReportFault {
 pub enum Stop {
     /// It can't stand at its place.
     Fault,
+    /// Memory ran out.
     Memory,
 }
 

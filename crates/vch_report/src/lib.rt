@@ -1,6 +1,19 @@
 //! The text of a report: written from a history and its totals, and read back.
 //!
-//! A well-formed report has one text, and a text is that of one report at most.
+//! A report says what a run did: its entries in their order, each task's totals at the end, and how
+//! many vouchers and values live. Its text is lines, with one spelling for each report.
+//!
+//! Its one invariant: a well-formed report has one text, and a text is that of one report at most
+//! (`one_text`). So a history that is printed is the only one with that text, and whoever checks the
+//! text checks the history. The hazard is a text that says two things, or one that is altered and
+//! still read: a number with a zero in front, a second space, a capital digit, a line too many. Each
+//! text is a report's or has one first line that can't stand (`one_answer`), and `read` answers
+//! just that.
+//!
+//! ```text
+//! let report = read(alloc, text)?;             // or `At { line }`
+//! let again = write(alloc, &report)?;          // the same bytes as `text`
+//! ```
 #![tactic(auto)]
 
 mod draft;

@@ -133,10 +133,14 @@ fn read_lines(alloc: Global, bytes: &[u8]) -> Result<Report, ReportFault>
     finish(number, draft, rest)
 }
 
-/// The report that a text spells, or the first line that can't stand at its place. It does not ask
-/// whether the history is legal.
+/// The report whose text the bytes are, or the first line that can't stand at its place: with it the
+/// lines so far begin the text of no report. For input that ends inside a line that is the unfinished
+/// line; for input that ends too early behind a line feed, one more than the number of lines; for
+/// bytes behind the last line, the line behind it. It does not ask whether the history is legal, and
+/// there may be any number of tasks.
 ///
-/// It goes over the text once, and takes memory only for what the report keeps.
+/// It goes over the text once, in time that grows with its size, and takes memory only for what the
+/// report keeps. The one other error is want of memory.
 pub fn read(alloc: Global, bytes: &[u8]) -> Result<Report, ReportFault>
     requires { length bytes.now < 4294967295 }
     // What is read is well formed, and its text is the bytes.

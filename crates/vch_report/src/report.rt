@@ -1,6 +1,10 @@
 use vch_model::{History, TotalList};
 
 /// What a run tells when it has ended.
+///
+/// It may be any history, legal or not. It has a text exactly where it is well formed: each number
+/// is in its range, each reply is a refusal or the one of its word, each value that is made belongs
+/// to its key and is not Default, and there is a task.
 #[derive(Drop)]
 pub struct Report {
     /// The entries, the oldest first.

@@ -3,12 +3,46 @@ use std::alloc::Global;
 use std::test::Fail;
 
 /// A task that makes a voucher and drops it.
-const FIRST: &str =
-    "report 1\nmade 7 user 6162\ncall 1 1 create 0 1\ncall 1 2 drop 0\nreleased 1\nphase\ntask 1 ledger 0 held 0 out 0\nvouchers 0 values 1\nend\n";
+const FIRST: &str = "\
+report 1
+made 7 user 6162
+call 1 1 create 0 1
+call 1 2 drop 0
+released 1
+phase
+task 1 ledger 0 held 0 out 0
+vouchers 0 values 1
+end
+";
 
 /// A client that is a donor, and a service that receives importance.
-const SERVICE: &str =
-    "report 1\nmade 2 list 1\nmade 7 user 6162\ncall 1 1 create 0 1\nmade 3 task 1\ncall 1 2 send 0\ncall 1 3 drop 0\nmade 2 list 1,2\nmade 3 account 1 2\ncall 2 1 recv 0 1 9 1\nreleased 1\nreleased 4\ncall 2 2 charge 0\ncall 2 3 assertions 0 1 0\ncall 2 4 drop 0\nreleased 7\nreleased 8\nreleased 2\nphase\ncall 1 4 ledger 0 1200\nphase\ntask 1 ledger 1200 held 0 out 0\ntask 2 ledger 0 held 0 out 0\nvouchers 0 values 1\nend\n";
+const SERVICE: &str = "\
+report 1
+made 2 list 1
+made 7 user 6162
+call 1 1 create 0 1
+made 3 task 1
+call 1 2 send 0
+call 1 3 drop 0
+made 2 list 1,2
+made 3 account 1 2
+call 2 1 recv 0 1 9 1
+released 1
+released 4
+call 2 2 charge 0
+call 2 3 assertions 0 1 0
+call 2 4 drop 0
+released 7
+released 8
+released 2
+phase
+call 1 4 ledger 0 1200
+phase
+task 1 ledger 1200 held 0 out 0
+task 2 ledger 0 held 0 out 0
+vouchers 0 values 1
+end
+";
 
 /// Lines that may stand between the title and the first task.
 const GOOD: [&str; 12] = [

@@ -11,7 +11,8 @@ use vch_base::{Chain, NoMemory, Value};
 use vch_model::{Entry, History, Reply, Total, TotalList, Word};
 use vch_text::{push_hex, push_number, push_spaced, push_text};
 
-fn text_of(word: Word) -> &'static [u8]
+/// The command word as it is written.
+fn verb_text(word: Word) -> &'static [u8]
     ensures { result.now ≡ word_text word }
 {
     match word {
@@ -131,7 +132,7 @@ fn push_entry_text(alloc: Global, out: &mut Vec<u8>, entry: &Entry) -> Result<()
             push_spaced(out, *task)?;
             push_spaced(out, *number)?;
             push_text(out, b" ")?;
-            push_text(out, text_of(*word))?;
+            push_text(out, verb_text(*word))?;
             push_text(out, b" ")?;
             push_reply(alloc, out, reply)
         }
@@ -206,10 +207,10 @@ fn push_last(out: &mut Vec<u8>, vouchers: u64, values: u64) -> Result<(), NoMemo
     push_text(out, b"end\n")
 }
 
-/// The text of a report: its one spelling. The one error is want of memory.
+/// The text of a report. The one error is want of memory.
 ///
-/// It goes over the report once and appends to one buffer. The digits of a number are made in
-/// place; those of bytes are made apart and copied.
+/// It goes over the report once and appends to one buffer, in time that grows with the text. The
+/// digits of a number are made in place; those of bytes are made apart and copied.
 pub fn write(alloc: Global, report: &Report) -> Result<Vec<u8>, NoMemory>
     requires { IsWellFormed report.now }
     ensures { IfOk result (λ text. text.items ≡ text_of report.now) }

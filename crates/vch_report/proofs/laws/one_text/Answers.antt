@@ -4,4 +4,7 @@ use Rattle.vch_report.proofs.Wholes.{one_report}
 use Rattle.vch_report.proofs.laws.one_text.Goals as goal
 
 pub returns : goal.returns
-returns c = record { injective = λ a b h g e. one_report (text_of a) a b (h, refl) (g, e); again = λ report h. (h, refl) }
+returns c = record {
+  injective = λ a b h g e. one_report (text_of a) a b (h, refl) (g, e);
+  again = λ report h. (h, refl);
+}

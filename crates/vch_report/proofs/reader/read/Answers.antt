@@ -6,4 +6,9 @@ returns c =
     let b = c.args.bytes.now in
     let r = c.read_lines.result in
     let h = c.read_lines.ensures in
-    record { found = found_by b r h; only = λ report g. only_by b r report h g; fault = fault_by b r h; fault_only = λ line g. fault_only_by b r line h g }
+    record {
+      found = found_by b r h;
+      only = λ report g. only_by b r report h g;
+      fault = fault_by b r h;
+      fault_only = λ line g. fault_only_by b r line h g;
+    }

@@ -4,11 +4,13 @@ use Rattle.vch_report.proofs.values.chain.Goals as goal
 
 pub returns-in_err-ordinal : goal.returns-in_err-ordinal
 returns-in_err-ordinal c =
-    rw c.from_residual.ensures (first_none c.args.word.now c.front.result.0.now c.front.result.1.now c.front.ensures c.in_err-ordinal.ensures)
+    rw c.from_residual.ensures
+    (first_none c.args.word.now c.front.result.0.now c.front.result.1.now c.front.ensures c.in_err-ordinal.ensures)
 
 pub loop-rest-init : goal.loop-rest-init
 loop-rest-init c =
-    rw c.one-list.ensures (first_some c.args.word.now c.front.result.0.now c.front.result.1.now c.in_ok-ordinal.field-0 c.front.ensures c.in_ok-ordinal.ensures, omega arith)
+    rw c.one-list.ensures
+    (first_some c.args.word.now c.front.result.0.now c.front.result.1.now c.in_ok-ordinal.field-0 c.front.ensures c.in_ok-ordinal.ensures, omega arith)
 
 pub returns-in_err-task : goal.returns-in_err-task
 returns-in_err-task c =
@@ -38,4 +40,5 @@ loop-rest-preserved c =
     )
 
 pub returns : goal.returns
-returns c = no_more c.args.word.now c.loop-rest.list c.loop-rest.rest.now c.loop-rest.invariant.0 (omega arith) c.loop-rest.invariant.1
+returns c = no_more c.args.word.now c.loop-rest.list c.loop-rest.rest.now c.loop-rest.invariant.0
+    (omega arith) c.loop-rest.invariant.1

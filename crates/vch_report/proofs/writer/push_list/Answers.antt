@@ -16,8 +16,10 @@ loop-i-preserved c =
     let last = c.in_ok-push_number.ensures.ok in
     elim c.if-i-gt0.branch [
       | then-i-gt0+in_ok-push_text w ↦
-          pushed_next old (chain_text (take i ts)) (codes ",") (decimal t) text c.loop-i.out.items c.if-i-gt0.out.items c.push_number.new.out.items c.loop-i.invariant (ap (λ x. x.items) w.out-is ∙ w.in_ok-push_text.ensures.ok) last
+          pushed_next old (chain_text (take i ts)) (codes ",")
+          (decimal t) text c.loop-i.out.items c.if-i-gt0.out.items c.push_number.new.out.items c.loop-i.invariant (ap (λ x. x.items) w.out-is ∙ w.in_ok-push_text.ensures.ok) last
           (task_next ts i t lt c.at.ensures w.if-i-gt0.true)
       | else-i-gt0 w ↦
-          pushed old (chain_text (take i ts)) (decimal t) text c.if-i-gt0.out.items c.push_number.new.out.items (ap (λ x. x.items) w.out-is ∙ c.loop-i.invariant) last (task_first ts i t lt c.at.ensures w.if-i-gt0.false)
+          pushed old (chain_text (take i ts)) (decimal t) text c.if-i-gt0.out.items c.push_number.new.out.items (ap
+          (λ x. x.items) w.out-is ∙ c.loop-i.invariant) last (task_first ts i t lt c.at.ensures w.if-i-gt0.false)
     ]
