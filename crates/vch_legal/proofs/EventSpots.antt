@@ -173,7 +173,8 @@ claimed_other m t f c d p e claim place other =
 
 -- the spot at the place of the claim, before and after
 abbrev pub claimed_spot : Machine → ℕ → Frame → Place → List Claim → Spot
-claimed_spot m t f q cs = one (is_some (living_at m.live q)) (is_fixed m q) (frame_holds (Some f) q || kept_named m t q)
+claimed_spot m t f q cs = one (is_some (living_at m.live q)) (is_fixed m q)
+    (frame_holds (Some f) q || kept_named m t q)
     (is_place f.receipt q || others_expect m t q) (claims_before m t q ++ (cs ++ claims_behind m t q))
 
 pub claimed_before : (m : Machine) (t : ℕ) (f : Frame) (c : Claim) → (tasked m t).frame ≡ Some f → f.claim ≡ Some c
@@ -206,7 +207,8 @@ recheck_join c live fixed held expected xs ys nh ne e g a h =
     (recheck_at c live fixed held expected xs ys a h))
 
 recheck_same : (m : Machine) (t : ℕ) (f : Frame) (c : Claim) → (tasked m t).frame ≡ Some f → f.claim ≡ Some c
-    → is_some c.answer ≡ true → spot_fits (spot m c.place) ≡ true → spot_fits (spot (do_recheck m t f c) c.place) ≡ true
+    → is_some c.answer ≡ true → spot_fits (spot m c.place) ≡ true → spot_fits (spot (do_recheck m t f c) c.place)
+    ≡ true
 recheck_same m t f c e claim a h =
     fits_of (spot (do_recheck m t f c) c.place) (claimed_spot m t f c.place (claim_at (again m c) c.place))
     (claimed_after m t f c (again m c) e)

@@ -1,4 +1,5 @@
--- The live values and the free handles: each handle once, different values, Default, the keys, the tasks and the numbers of
+-- The live values and the free handles: each handle once, different values, Default, the keys, the tasks and the
+-- numbers of
 -- the values, through every event.
 use Rattle.std.proofs.Common.{inl, inr, ◌≡◌, ℕ, suc, ◌+◌, ◌≤◌, Bool, List, [], ◌∷◌, ◌++◌, refl, true, false, not, ◌&&◌, arith, sym, ap, ◌∙◌, subst, length, Some, None, Option}
 use Rattle.std.specs.Prelude.{◌⊎◌, is_some, if◌then◌else◌, ◌==◌, nat_lt}
@@ -52,7 +53,11 @@ live_of sc m h = record {
 }
 
 numbers_older : (n o : ℕ) (live : List Living) → n ≤ o → NumbersFit n live → NumbersFit o live
-numbers_older n o live l h = record { within = λ p a e. le_then (h.within p a e) l; counted = h.counted; once = h.once }
+numbers_older n o live l h = record {
+  within = λ p a e. le_then (h.within p a e) l;
+  counted = h.counted;
+  once = h.once;
+}
   where
     le_then : {a b c : ℕ} → a ≤ b → b ≤ c → a ≤ c
     le_then x y = omega arith

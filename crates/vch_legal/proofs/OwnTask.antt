@@ -36,7 +36,8 @@ own_set (y ∷ xs) zero x h = h
 own_set (y ∷ xs) (suc i) x h = own_set xs i x h
 
 -- the frame that was put there fits
-pub own_frame : (m : Machine) (t : ℕ) (g : Option Frame) → OptionFits g → OptionFits (tasked (with_frame m t g) t).frame
+pub own_frame : (m : Machine) (t : ℕ) (g : Option Frame) → OptionFits g
+    → OptionFits (tasked (with_frame m t g) t).frame
 own_frame m t g h = own_set m.tasks (t - 1) (record (tasked m t) { frame = g }) h
 
 -- a step that leaves the values, the handles and the tally, and begins no call
@@ -223,13 +224,15 @@ copied_few : (previous : Option Handles) (key : ℕ) (w : Worked) → length w.l
 copied_few None key w h = omega arith
 copied_few (Some v) key w h = keys_few (copies (Some v) w.forming) key w h
 
-worked_few : (r : Recipe) (previous : Option Handles) (w : Worked) → length w.left ≤ 0 → LeftFew 3 (worked r previous w)
+worked_few : (r : Recipe) (previous : Option Handles) (w : Worked) → length w.left ≤ 0
+    → LeftFew 3 (worked r previous w)
 worked_few r previous w h =
     left_if ((r.command == 3) || ((r.command == 4) || (r.command == 5))) 3 _ _ tt
     (left_if ((r.command == 0) || ((r.command == 1) || (r.command == 2))) 3 _ _
     (left_if (not (length r.content == 0)) 3 _ _ tt
     (left_if (r.command == 0) 3 _ _ (omega arith)
-    (left_if (r.command == 1) 3 _ _ (copied_few previous r.key w h) (keys_few (removes previous w.forming) r.key w h))))
+    (left_if (r.command == 1) 3 _ _ (copied_few previous r.key w h)
+    (keys_few (removes previous w.forming) r.key w h))))
     tt)
 
 with_few : (r : Recipe) (previous : Option Handles) (w : Worked) → length w.left ≤ 0
@@ -253,7 +256,8 @@ three_more lets left e h = rw e (omega arith)
 
 pub work_few : (names : List Named) (first : First) (map : Handles) (lets : List Place) (w : Worked)
     → work_first names first map ≡ Ok w → lets ≡ [] → length (lets ++ w.left) ≤ 6
-work_few names first map lets w e empty = three_more lets w.left empty (subst (LeftFew 3) e (first_few names first map))
+work_few names first map lets w e empty = three_more lets w.left empty
+    (subst (LeftFew 3) e (first_few names first map))
 
 pub refuse_few : (lets : List Place) (v : Option Handles) → lets ≡ [] → length (lets ++ option_places v) ≤ 6
 refuse_few lets v e = three_more lets (option_places v) e (option_few v)

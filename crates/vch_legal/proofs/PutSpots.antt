@@ -142,7 +142,8 @@ put_create_spot m t f v call p e forming =
     (ap (λ b. b || (known_to (with_name (tasked m t) v (name_of (tasked m t).names v)) p || others_hold m t p))
     (closed_holds (ending f (doubled m v)) p)
     ∙ (create_holds m (tasked m t) f.lets v p (others_hold m t p) (name_of (tasked m t).names v) refl
-    ∙ sym (ap (λ x. (option_has x p || lets_hold f.lets p) || (known_to (tasked m t) p || others_hold m t p)) forming)))
+    ∙ sym (ap (λ x. (option_has x p || lets_hold f.lets p) || (known_to (tasked m t) p || others_hold m t p))
+    forming)))
     (ap (λ b. b || others_expect m t p) (closed_expects (ending f (doubled m v)) p))
     (ap (λ b. claims_before m t p ++ (b ++ claims_behind m t p)) (closed_claims (ending f (doubled m v)) p))
     ∙ sym (spot_of m t f p e))

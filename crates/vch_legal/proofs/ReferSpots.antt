@@ -139,7 +139,8 @@ refer_other m t f v call q p e forming claim receipt other =
 abbrev pub after_expects : Machine → ℕ → Frame → Handles → Call → Place → Bool
 after_expects m t f v call q = frame_expects (closed (moved call (referred f v q))) q || others_expect (backed m q) t q
 
-pub refer_here : (m : Machine) (t : ℕ) (f : Frame) (v : Handles) (call : Call) (q : Place) → (tasked m t).frame ≡ Some f
+pub refer_here : (m : Machine) (t : ℕ) (f : Frame) (v : Handles) (call : Call) (q : Place) → (tasked m t).frame
+    ≡ Some f
     → f.forming ≡ Some v → f.claim ≡ None
     → spot (do_refer m t f v call q) q ≡ one (is_some (living_at m.live q)) (is_fixed m q) true
     (after_expects m t f v call q) (map back_now (claims_on m q))
@@ -182,7 +183,8 @@ refer_same m t f v call q e forming claim receipt h =
         (ap (λ x. is_place x q) receipt ∙ same_place_refl q)
 
 -- Refer keeps the facts of every handle
-pub refer_fits : (m : Machine) (t : ℕ) (f : Frame) (v : Handles) (call : Call) (q : Place) → (tasked m t).frame ≡ Some f
+pub refer_fits : (m : Machine) (t : ℕ) (f : Frame) (v : Handles) (call : Call) (q : Place) → (tasked m t).frame
+    ≡ Some f
     → f.forming ≡ Some v → f.claim ≡ None → f.receipt ≡ Some q → AllFit m → AllFit (do_refer m t f v call q)
 refer_fits m t f v call q e forming claim receipt h p =
     cases_bool (same_place q p) (spot_fits (spot (do_refer m t f v call q) p) ≡ true)

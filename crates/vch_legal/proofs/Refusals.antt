@@ -36,16 +36,21 @@ pub record Calling (sc : Scenario) (t : ℕ) (m : Machine) (f : Frame) (call : C
   pub forming : f.forming ≡ Some map
   pub there : nth_call sc t (tasked m t).begun ≡ Some call
 
-pub calling_answers : (sc : Scenario) (t : ℕ) (m : Machine) (f : Frame) (call : Call) → Calling sc t m f call → is_answering (tasked m t).frame ≡ true
+pub calling_answers : (sc : Scenario) (t : ℕ) (m : Machine) (f : Frame) (call : Call) → Calling sc t m f call
+    → is_answering (tasked m t).frame ≡ true
 calling_answers sc t m f call c = ap is_answering c.frame ∙ ap is_some c.forming
 
 -- a refusal that leaves the store, and that is the store's or a want of memory
 pub refuse_step : (sc : Scenario) (t : ℕ) (m : Machine) (f : Frame) (call : Call) (code : ℤ) → Calling sc t m f call
-    → (if is_want (refused code) then seen m else store_after_call sc (seen m) t call) ≡ seen m → IsAnswer sc m.past (seen m) t call (refused code) → Step sc t m (refuse m t f call code)
+    → (if is_want (refused code) then seen m else store_after_call sc (seen m) t call) ≡ seen m
+    → IsAnswer sc m.past (seen m) t call (refused code) → Step sc t m (refuse m t f call code)
 refuse_step sc t m f call code c store answer =
-    answered_step sc t m (refuse m t f call code) call (refused code) c.before (calling_answers sc t m f call c) c.there
-    (ap (λ (x : Tasked). entries.Call t x.begun (word_of call) (refused code) ∷ m.past) own) refl (ap (λ (x : Tasked). x.begun) own)
-    (subst (λ (x : Tasked). Answered x.frame) (sym own) (closed_answered g refl)) (seen_frame m t (closed g) ∙ sym store) answer
+    answered_step sc t m (refuse m t f call code) call (refused code) c.before (calling_answers sc t m f call c)
+    c.there
+    (ap (λ (x : Tasked). entries.Call t x.begun (word_of call) (refused code) ∷ m.past) own) refl
+    (ap (λ (x : Tasked). x.begun) own)
+    (subst (λ (x : Tasked). Answered x.frame) (sym own) (closed_answered g refl))
+    (seen_frame m t (closed g) ∙ sym store) answer
   where
     g : Frame
     g = record f { forming = None; keys = []; lets = f.lets ++ option_places f.forming }
@@ -53,28 +58,35 @@ refuse_step sc t m f call code c store answer =
     own : tasked (with_frame m t (closed g)) t ≡ record (tasked m t) { frame = closed g }
     own = own_task m t (record (tasked m t) { frame = closed g }) (task_in_range m t f c.frame)
 
-want_step : (sc : Scenario) (t : ℕ) (m : Machine) (f : Frame) (call : Call) → Calling sc t m f call → may_want sc m.past (seen m) t call ≡ true → Step sc t m (refuse m t f call (pos 6))
+want_step : (sc : Scenario) (t : ℕ) (m : Machine) (f : Frame) (call : Call) → Calling sc t m f call
+    → may_want sc m.past (seen m) t call ≡ true → Step sc t m (refuse m t f call (pos 6))
 want_step sc t m f call c may = refuse_step sc t m f call (pos 6) c refl (inr (refl, may))
 
 -- a create of some bytes, and not too many, is the fold over all
-pub create_is : (names : ℕ → Option Voucher) (t : ℕ) (bytes : List ℕ) → (length bytes == 0) ≡ false → nat_lt 5120 (length bytes) ≡ false
+pub create_is : (names : ℕ → Option Voucher) (t : ℕ) (bytes : List ℕ) → (length bytes == 0) ≡ false
+    → nat_lt 5120 (length bytes) ≡ false
     → create names t bytes ≡ made_of (eval_all (length bytes) names t nothing bytes)
 unfolding create
 create_is names t bytes some few = rw (few, some) refl
 
 -- what a create makes in the store
-pub create_seen : (m : Machine) (t : ℕ) (bytes : List ℕ) (x : Result Voucher ℤ) → (length bytes == 0) ≡ false → nat_lt 5120 (length bytes) ≡ false
-    → eval_all (length bytes) (seen_names m.live (tasked m t).names) t nothing bytes ≡ x → create (voucher_of (member (seen m) t).names) t bytes ≡ made_of x
+pub create_seen : (m : Machine) (t : ℕ) (bytes : List ℕ) (x : Result Voucher ℤ) → (length bytes == 0) ≡ false
+    → nat_lt 5120 (length bytes) ≡ false
+    → eval_all (length bytes) (seen_names m.live (tasked m t).names) t nothing bytes ≡ x
+    → create (voucher_of (member (seen m) t).names) t bytes ≡ made_of x
 create_seen m t bytes x some few e =
-    ap (λ names. create names t bytes) (names_seen m t) ∙ (create_is (seen_names m.live (tasked m t).names) t bytes some few ∙ ap made_of e)
+    ap (λ names. create names t bytes) (names_seen m t) ∙
+    (create_is (seen_names m.live (tasked m t).names) t bytes some few ∙ ap made_of e)
 
 if_same : {A : Type 0} (b : Bool) (x y : A) → y ≡ x → (if b then x else y) ≡ x
 if_same true x y e = refl
 if_same false x y e = e
 
 -- a create is refused by the code of one of its records
-pub create_refused : (sc : Scenario) (t : ℕ) (m : Machine) (f : Frame) (bytes : List ℕ) (code : ℤ) → Calling sc t m f (calls.Create bytes) → (length bytes == 0) ≡ false → nat_lt 5120 (length bytes) ≡ false
-    → eval_all (length bytes) (seen_names m.live (tasked m t).names) t nothing bytes ≡ Err code → Step sc t m (refuse m t f (calls.Create bytes) code)
+pub create_refused : (sc : Scenario) (t : ℕ) (m : Machine) (f : Frame) (bytes : List ℕ) (code : ℤ)
+    → Calling sc t m f (calls.Create bytes) → (length bytes == 0) ≡ false → nat_lt 5120 (length bytes) ≡ false
+    → eval_all (length bytes) (seen_names m.live (tasked m t).names) t nothing bytes ≡ Err code
+    → Step sc t m (refuse m t f (calls.Create bytes) code)
 create_refused sc t m f bytes code c some few e =
     refuse_step sc t m f (calls.Create bytes) code c
     (if_same (is_want (refused code)) (seen m) _ (ap (placed (seen m) t) made))
@@ -84,11 +96,14 @@ create_refused sc t m f bytes code c some few e =
     made = create_seen m t bytes (Err code) some few e
 
 -- a create wants memory at its end or at a record that asks a manager
-pub create_wants : (sc : Scenario) (t : ℕ) (m : Machine) (f : Frame) (bytes : List ℕ) → Calling sc t m f (calls.Create bytes) → (length bytes == 0) ≡ false → nat_lt 5120 (length bytes) ≡ false
-    → reaches (length bytes) (seen_names m.live (tasked m t).names) t nothing bytes ≡ true → Step sc t m (refuse m t f (calls.Create bytes) (pos 6))
+pub create_wants : (sc : Scenario) (t : ℕ) (m : Machine) (f : Frame) (bytes : List ℕ)
+    → Calling sc t m f (calls.Create bytes) → (length bytes == 0) ≡ false → nat_lt 5120 (length bytes) ≡ false
+    → reaches (length bytes) (seen_names m.live (tasked m t).names) t nothing bytes ≡ true
+    → Step sc t m (refuse m t f (calls.Create bytes) (pos 6))
 create_wants sc t m f bytes c some few e =
     want_step sc t m f (calls.Create bytes) c
-    (both (not_none (length bytes) some) (not_more (length bytes) few) (ap (λ names. reaches (length bytes) names t nothing bytes) (names_seen m t) ∙ e))
+    (both (not_none (length bytes) some) (not_more (length bytes) few)
+    (ap (λ names. reaches (length bytes) names t nothing bytes) (names_seen m t) ∙ e))
   where
     not_none : (n : ℕ) → (n == 0) ≡ false → nat_lt 0 n ≡ true
     not_none n h = grind arith
@@ -100,11 +115,15 @@ create_wants sc t m f bytes c some few e =
     both x y z = rw (x, y, z) refl
 
 -- a send wants memory where the bank is asked, or the queue is not full
-pub send_wants : (sc : Scenario) (t : ℕ) (m : Machine) (f : Frame) (to : ℕ) (moving : Bool) (name id : ℕ) (v : Voucher) → Calling sc t m f (calls.Send to moving name id) → is_task sc to ≡ true → (name == 0) ≡ false
-    → seen_names m.live (tasked m t).names name ≡ Some v → (is_some v.bank || nat_lt (length (member (seen m) to).queue) 5) ≡ true → Step sc t m (refuse m t f (calls.Send to moving name id) (pos 6))
+pub send_wants : (sc : Scenario) (t : ℕ) (m : Machine) (f : Frame) (to : ℕ) (moving : Bool) (name id : ℕ)
+    (v : Voucher) → Calling sc t m f (calls.Send to moving name id) → is_task sc to ≡ true → (name == 0) ≡ false
+    → seen_names m.live (tasked m t).names name ≡ Some v →
+    (is_some v.bank || nat_lt (length (member (seen m) to).queue) 5) ≡ true
+    → Step sc t m (refuse m t f (calls.Send to moving name id) (pos 6))
 send_wants sc t m f to moving name id v c task named known room =
     want_step sc t m f (calls.Send to moving name id) c
-    (both task (ap (λ names. may_send (seen m) to name (names name)) (names_seen m t) ∙ (ap (may_send (seen m) to name) known ∙ sent_part named room)))
+    (both task (ap (λ names. may_send (seen m) to name (names name)) (names_seen m t)
+    ∙ (ap (may_send (seen m) to name) known ∙ sent_part named room)))
   where
     both : {a b : Bool} → a ≡ true → b ≡ true → (a && b) ≡ true
     both x y = rw (x, y) refl
@@ -113,9 +132,11 @@ send_wants sc t m f to moving name id v c task named known room =
     sent_part x y = rw (x, y) refl
 
 -- a recv wants memory where its first message has a voucher
-pub recv_wants : (sc : Scenario) (t : ℕ) (m : Machine) (f : Frame) (v : Voucher) → Calling sc t m f calls.Recv → first_in (member_of m.live (tasked m t)).queue ≡ Some v → Step sc t m (refuse m t f calls.Recv (pos 6))
+pub recv_wants : (sc : Scenario) (t : ℕ) (m : Machine) (f : Frame) (v : Voucher) → Calling sc t m f calls.Recv
+    → first_in (member_of m.live (tasked m t)).queue ≡ Some v → Step sc t m (refuse m t f calls.Recv (pos 6))
 recv_wants sc t m f v c first =
-    want_step sc t m f calls.Recv c (ap (λ (x : Member). first_has_voucher x.queue) (member_seen m t) ∙ by_queue (member_of m.live (tasked m t)).queue first)
+    want_step sc t m f calls.Recv c (ap (λ (x : Member). first_has_voucher x.queue) (member_seen m t)
+    ∙ by_queue (member_of m.live (tasked m t)).queue first)
   where
     by_queue : (queue : List Message) → first_in queue ≡ Some v → first_has_voucher queue ≡ true
     by_queue [] e = cc

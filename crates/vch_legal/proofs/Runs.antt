@@ -34,7 +34,8 @@ idle_frames : (flags : List Flags) → any_frame (map (λ _. idle) flags) ≡ fa
 idle_frames [] = refl
 idle_frames (x ∷ flags) = idle_frames flags
 
-idle_members : (flags : List Flags) → map (member_of (default_living ∷ [])) (map (λ _. idle) flags) ≡ map (λ _. store.nobody) flags
+idle_members : (flags : List Flags) → map (member_of (default_living ∷ [])) (map (λ _. idle) flags)
+    ≡ map (λ _. store.nobody) flags
 idle_members [] = refl
 idle_members (x ∷ flags) = ap (λ xs. store.nobody ∷ xs) (idle_members flags)
 
@@ -54,7 +55,8 @@ pub start_stands : (sc : Scenario) → Stands sc (start sc)
 start_stands sc = record {
   fits = start_keeps sc;
   same_store = ap (λ tasks. record (store.start sc) { tasks = tasks }) (idle_members sc.flags);
-  tasks = λ t task. subst (TaskStands sc [] (default_living ∷ []) t) (sym (idle_task sc.flags (t - 1))) (idle_stands sc t);
+  tasks = λ t task. subst (TaskStands sc [] (default_living ∷ []) t) (sym (idle_task sc.flags (t - 1)))
+      (idle_stands sc t);
   phases = omega arith;
   rest = λ over. idle_frames sc.flags;
   legal = tt;
@@ -62,10 +64,12 @@ start_stands sc = record {
 
 -- the end of a phase
 
-rests_of : (sc : Scenario) (m : Machine) → Stands sc m → is_empty (ready sc m (numbers (length sc.flags))) ≡ true → (t : ℕ) → 0 < t → t ≤ length sc.flags → Rests sc m t
+rests_of : (sc : Scenario) (m : Machine) → Stands sc m → is_empty (ready sc m (numbers (length sc.flags))) ≡ true
+    → (t : ℕ) → 0 < t → t ≤ length sc.flags → Rests sc m t
 rests_of sc m s e t a b = task_rests sc m t (s.tasks t (task_of sc t a b)) (none_ready sc m (length sc.flags) e t a b)
 
-all_rest : (sc : Scenario) (m : Machine) → Stands sc m → is_empty (ready sc m (numbers (length sc.flags))) ≡ true → any_frame m.tasks ≡ false
+all_rest : (sc : Scenario) (m : Machine) → Stands sc m → is_empty (ready sc m (numbers (length sc.flags))) ≡ true
+    → any_frame m.tasks ≡ false
 all_rest sc m s e =
     none_frame m.tasks (λ i l. subst (λ j. (get_or m.tasks j idle).frame ≡ None) (before i)
     (rests_of sc m s e (suc i) (omega arith) (subst (λ n. suc i ≤ n) s.fits.tasks (omega arith))).frame)
@@ -73,17 +77,21 @@ all_rest sc m s e =
     before : (i : ℕ) → suc i - 1 ≡ i
     before i = omega arith
 
-noted_stands : (sc : Scenario) (m : Machine) → Stands sc m → is_empty (ready sc m (numbers (length sc.flags))) ≡ true → nat_lt (phases_in m.past) (length sc.phases) ≡ true → Fits sc (noted m entries.Phase) → Stands sc (noted m entries.Phase)
+noted_stands : (sc : Scenario) (m : Machine) → Stands sc m → is_empty (ready sc m (numbers (length sc.flags))) ≡ true
+    → nat_lt (phases_in m.past) (length sc.phases) ≡ true → Fits sc (noted m entries.Phase)
+    → Stands sc (noted m entries.Phase)
 noted_stands sc m s e more fits = record {
   fits = fits;
   same_store = s.same_store;
   tasks = λ t task. over t task (s.tasks t task) (answered t task);
-  phases = let b : phases_in m.past < length sc.phases = below (phases_in m.past) (length sc.phases) more in omega arith;
+  phases = let b : phases_in m.past < length sc.phases = below (phases_in m.past) (length sc.phases) more in omega
+      arith;
   rest = λ _. all_rest sc m s e;
   legal = entry_legal sc m entries.Phase s.same_store (
     below _ _ more,
     rest_all_held sc m s.fits (all_rest sc m s e),
-    each_task (length sc.flags) _ (λ t a b. rest_answered sc m t (s.tasks t (task_of sc t a b)) (rests_of sc m s e t a b)),
+    each_task (length sc.flags) _ (λ t a b. rest_answered sc m t (s.tasks t (task_of sc t a b))
+        (rests_of sc m s e t a b)),
   ) s.legal;
 }
   where
@@ -97,17 +105,28 @@ noted_stands sc m s e more fits = record {
     above t n h = grind arith
 
     answered : (t : ℕ) → is_task sc t ≡ true → calls_in m.past t ≡ lines_until sc (phases_in m.past + 1) t
-    answered t task = rest_answered sc m t (s.tasks t task) (rests_of sc m s e t (above t (length sc.flags) task) (within t (length sc.flags) task))
+    answered t task = rest_answered sc m t (s.tasks t task)
+        (rests_of sc m s e t (above t (length sc.flags) task) (within t (length sc.flags) task))
 
-    over : (t : ℕ) → is_task sc t ≡ true → Before sc t m → calls_in m.past t ≡ lines_until sc (phases_in m.past + 1) t → TaskStands sc (entries.Phase ∷ m.past) m.live t (tasked m t)
+    over : (t : ℕ) → is_task sc t ≡ true → Before sc t m → calls_in m.past t ≡ lines_until sc (phases_in m.past + 1) t
+        → TaskStands sc (entries.Phase ∷ m.past) m.live t (tasked m t)
     over t task b a =
         let c : (tasked m t).begun ≤ lines_until sc (phases_in m.past + 1) t = b.begun in
-        let d : lines_until sc (phases_in m.past + 1) t ≤ lines_until sc (phases_in m.past + 1 + 1) t = more_lines sc (phases_in m.past + 1) t in
-        record { counted = b.counted; begun = omega arith; answered = omega arith; forming = b.forming; open_frame = b.open_frame }
+        let d : lines_until sc (phases_in m.past + 1) t ≤ lines_until sc (phases_in m.past + 1 + 1) t = more_lines sc
+        (phases_in m.past + 1) t in
+        record {
+          counted = b.counted;
+          begun = omega arith;
+          answered = omega arith;
+          forming = b.forming;
+          open_frame =
+              b.open_frame;
+        }
 
 pub phase_stands : (sc : Scenario) (m n : Machine) → Stands sc m → phase_event sc m ≡ Some n → Stands sc n
 unfolding phase_event
-phase_stands sc m n s e = by_test (is_empty (ready sc m (numbers (length sc.flags))) && nat_lt (phases_in m.past) (length sc.phases)) refl e
+phase_stands sc m n s e = by_test (is_empty (ready sc m (numbers (length sc.flags))) && nat_lt (phases_in m.past)
+    (length sc.phases)) refl e
   where
     left : (a b : Bool) → (a && b) ≡ true → a ≡ true
     left a b h = grind arith
@@ -118,29 +137,37 @@ phase_stands sc m n s e = by_test (is_empty (ready sc m (numbers (length sc.flag
     some_eq : {x y : Machine} → Some x ≡ Some y → x ≡ y
     some_eq h = cc
 
-    by_test : (b : Bool) → (is_empty (ready sc m (numbers (length sc.flags))) && nat_lt (phases_in m.past) (length sc.phases)) ≡ b → (if b then Some (noted m entries.Phase) else None) ≡ Some n → Stands sc n
-    by_test true h g = subst (Stands sc) (some_eq g) (noted_stands sc m s (left _ _ h) (right _ _ h) (subst (Fits sc) (sym (some_eq g)) (phase_keeps sc m n s.fits e)))
+    by_test : (b : Bool) → (is_empty (ready sc m (numbers (length sc.flags))) && nat_lt (phases_in m.past)
+        (length sc.phases)) ≡ b → (if b then Some (noted m entries.Phase) else None) ≡ Some n → Stands sc n
+    by_test true h g = subst (Stands sc) (some_eq g)
+        (noted_stands sc m s (left _ _ h) (right _ _ h)
+        (subst (Fits sc) (sym (some_eq g)) (phase_keeps sc m n s.fits e)))
     by_test false h g = cc
 
 -- every move, and every run
 
-pub happens_stands : (sc : Scenario) (m n : Machine) (move : Move) → Stands sc m → happens sc m move ≡ Some n → Stands sc n
+pub happens_stands : (sc : Scenario) (m n : Machine) (move : Move) → Stands sc m → happens sc m move ≡ Some n
+    → Stands sc n
 happens_stands sc m n (Move.Of t want) s e = event_stands sc want t m n s e
 happens_stands sc m n Move.EndPhase s e = phase_stands sc m n s e
 
-run_stands : (sc : Scenario) (moves : List Move) (o : Option Machine) (n : Machine) → ((m : Machine) → o ≡ Some m → Stands sc m) → run sc moves o ≡ Some n → Stands sc n
+run_stands : (sc : Scenario) (moves : List Move) (o : Option Machine) (n : Machine)
+    → ((m : Machine) → o ≡ Some m → Stands sc m) → run sc moves o ≡ Some n → Stands sc n
 run_stands sc moves None n s e = cc
 run_stands sc [] (Some m) n s e = s n e
-run_stands sc (move ∷ moves) (Some m) n s e = run_stands sc moves (happens sc m move) n (λ k g. happens_stands sc m k move (s m refl) g) e
+run_stands sc (move ∷ moves) (Some m) n s e = run_stands sc moves (happens sc m move) n
+    (λ k g. happens_stands sc m k move (s m refl) g) e
 
 pub reached_stands : (sc : Scenario) (moves : List Move) (n : Machine) → run_from_start sc moves ≡ Some n → Stands sc n
-reached_stands sc moves n e = run_stands sc moves (Some (start sc)) n (λ m g. let k : start sc ≡ m = cc in subst (Stands sc) k (start_stands sc)) e
+reached_stands sc moves n e = run_stands sc moves (Some (start sc)) n
+    (λ m g. let k : start sc ≡ m = cc in subst (Stands sc) k (start_stands sc)) e
 
 -- the history of every run is legal
 past_legal : (sc : Scenario) (past : List Entry) → LegalPast sc past → Legal (reverse past) sc
 past_legal sc past l = subst (LegalPast sc) (sym (reverse-reverse past)) l
 
-pub run_legal : (sc : Scenario) (moves : List Move) (n : Machine) → run_from_start sc moves ≡ Some n → Legal (reverse n.past) sc
+pub run_legal : (sc : Scenario) (moves : List Move) (n : Machine) → run_from_start sc moves ≡ Some n
+    → Legal (reverse n.past) sc
 run_legal sc moves n e = past_legal sc n.past (reached_stands sc moves n e).legal
 
 -- where all phases have ended it is whole
@@ -171,10 +198,12 @@ ended_past sc m s over = record {
         let d : lines_until sc (phases_in m.past) t ≤ calls_in m.past t = b.answered in
         let e : (tasked m t).begun ≤ lines_until sc (phases_in m.past + 1) t = b.begun in
         let f : lines_until sc (phases_in m.past) t ≡ length (lines_of sc t) = all_lines sc t (phases_in m.past) l in
-        let g : lines_until sc (phases_in m.past + 1) t ≡ length (lines_of sc t) = all_lines sc t (phases_in m.past + 1) (omega arith) in
+        let g : lines_until sc (phases_in m.past + 1) t ≡ length (lines_of sc t) = all_lines sc t
+        (phases_in m.past + 1) (omega arith) in
         omega arith
 
-pub run_whole : (sc : Scenario) (moves : List Move) (n : Machine) → run_from_start sc moves ≡ Some n → has_ended sc n ≡ true → Whole (reverse n.past) sc
+pub run_whole : (sc : Scenario) (moves : List Move) (n : Machine) → run_from_start sc moves ≡ Some n → has_ended sc n
+    ≡ true → Whole (reverse n.past) sc
 run_whole sc moves n e over = record {
   legal = run_legal sc moves n e;
   ended = subst (Ended sc) (sym (reverse-reverse n.past)) (ended_past sc n (reached_stands sc moves n e) over);

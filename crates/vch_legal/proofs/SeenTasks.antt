@@ -17,17 +17,22 @@ abbrev pub store_with : List store.Member → List store.Alive → store.Store
 store_with tasks live = record { tasks = tasks; live = live }
 
 -- a task is replaced, in the machine and in the store
-pub seen_task : (m : Machine) (t : ℕ) (x : Tasked) → seen (with_tasked m t x) ≡ store.set_member (seen m) t (member_of m.live x)
-seen_task m t x = ap (λ tasks. store_with tasks (flat_map alive_of m.live)) (map-set (member_of m.live) m.tasks (t - 1) x)
+pub seen_task : (m : Machine) (t : ℕ) (x : Tasked) → seen (with_tasked m t x)
+    ≡ store.set_member (seen m) t (member_of m.live x)
+seen_task m t x = ap (λ tasks. store_with tasks (flat_map alive_of m.live))
+    (map-set (member_of m.live) m.tasks (t - 1) x)
 
 -- a task is replaced by one that the store sees as the same
-pub seen_same : (m : Machine) (t : ℕ) (x : Tasked) → member_of m.live x ≡ member_of m.live (tasked m t) → seen (with_tasked m t x) ≡ seen m
-seen_same m t x e = ap (λ tasks. store_with tasks (flat_map alive_of m.live)) (map-set_same (member_of m.live) m.tasks (t - 1) x idle e)
+pub seen_same : (m : Machine) (t : ℕ) (x : Tasked) → member_of m.live x ≡ member_of m.live (tasked m t)
+    → seen (with_tasked m t x) ≡ seen m
+seen_same m t x e = ap (λ tasks. store_with tasks (flat_map alive_of m.live))
+    (map-set_same (member_of m.live) m.tasks (t - 1) x idle e)
 
 pub seen_frame : (m : Machine) (t : ℕ) (g : Option Frame) → seen (with_frame m t g) ≡ seen m
 seen_frame m t g = seen_same m t (record (tasked m t) { frame = g }) refl
 
-claims_map : (live : List Living) (g : Claim → Claim) (xs : List Tasked) → map (member_of live) (map (on_task g) xs) ≡ map (member_of live) xs
+claims_map : (live : List Living) (g : Claim → Claim) (xs : List Tasked) → map (member_of live) (map (on_task g) xs)
+    ≡ map (member_of live) xs
 claims_map live g [] = refl
 claims_map live g (x ∷ xs) = ap (λ ys. member_of live x ∷ ys) (claims_map live g xs)
 
@@ -42,7 +47,8 @@ pub claims_task : (m : Machine) (g : Claim → Claim) (u : ℕ) → tasked (on_c
 claims_task m g u = get_or-map (on_task g) m.tasks (u - 1) idle
 
 -- what no task does, the task of a number does not
-pub none_at : (p : Tasked → Bool) (xs : List Tasked) (i : ℕ) → p idle ≡ false → list_any p xs ≡ false → p (get_or xs i idle) ≡ false
+pub none_at : (p : Tasked → Bool) (xs : List Tasked) (i : ℕ) → p idle ≡ false → list_any p xs ≡ false
+    → p (get_or xs i idle) ≡ false
 none_at p [] i e h = e
 none_at p (x ∷ xs) ℕ.zero e h = left_false (p x) (list_any p xs) h
   where

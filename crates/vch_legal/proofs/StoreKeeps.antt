@@ -160,7 +160,8 @@ queued_gives v s to q f =
         as (λ _. (member_has k x (member s to) ≡ true) ⊎ (message_has k x v ≡ true)) [
           | inl names ↦ inl (or_left (names_have k x (member s to).names) (queue_has k x (member s to).queue) names)
           | inr queue ↦ elim (or_case (queue_has k x (member s to).queue) (message_has k x q.voucher || false)
-              (sym (list_any-append (λ (r : Message). message_has k x r.voucher) (member s to).queue (q ∷ [])) ∙ queue))
+              (sym (list_any-append (λ (r : Message). message_has k x r.voucher) (member s to).queue (q ∷ []))
+              ∙ queue))
               as (λ _. (member_has k x (member s to) ≡ true) ⊎ (message_has k x v ≡ true)) [
                 | inl old ↦ inl (or_right (names_have k x (member s to).names) (queue_has k x (member s to).queue) old)
                 | inr new ↦ inr (f k x (or_drop (message_has k x q.voucher) new))

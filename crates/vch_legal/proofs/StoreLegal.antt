@@ -346,7 +346,8 @@ line_keeps sc past s t (Some l) word reply a h = answered_keeps sc past s t l re
 
 entry_keeps : (sc : Scenario) (past : List Entry) (s : Store) (count : ℕ) (entry : Entry) → CanFollow sc past s entry
     → StoreFits sc s → StoreFits sc (store_after sc count s entry)
-entry_keeps sc past s count (entries.Call t n word reply) a h = line_keeps sc past s t (line_at sc t n) word reply a.1 h
+entry_keeps sc past s count (entries.Call t n word reply) a h = line_keeps sc past s t (line_at sc t n) word reply a.1
+    h
 entry_keeps sc past s count (entries.Made k x) a h = made_keeps sc s k (count + 1) x a.0 a.1 a.2 h
 entry_keeps sc past s count (entries.Released e) a h = released_keeps sc s e (find_made s.live e) refl a h
 entry_keeps sc past s count entries.Phase a h = h

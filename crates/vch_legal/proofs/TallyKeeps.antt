@@ -1,4 +1,5 @@
--- The questions that were asked, and those that may still come, are no more than the references taken: through every event.
+-- The questions that were asked, and those that may still come, are no more than the references taken: through every
+-- event.
 use Rattle.std.proofs.Common.{◌≡◌, ℕ, ◌+◌, ◌≤◌, Bool, List, [], ◌∷◌, ◌++◌, refl, true, false, not, ◌&&◌, ◌||◌, arith, sym, ap, ◌∙◌, subst, length, map, Some, None, Option}
 use Rattle.std.specs.Prelude.{is_some, if◌then◌else◌, nat_lt, ◌==◌}
 use Rattle.vch_base.specs.declared.key.Key.{Key}

@@ -202,7 +202,8 @@ own_cases sc t m h task = record {
       (frame_of (tasked m t).frame f e (h.frames t)) h.sends task e lets receipt;
   ask = λ f c e claim a. asked_own sc t m f c c.raced (frame_of (tasked m t).frame f e (h.frames t)) h.sends task e
       claim;
-  recheck = λ f c e claim a. recheck_own sc t m f c (frame_of (tasked m t).frame f e (h.frames t)) h.sends task e claim;
+  recheck = λ f c e claim a. recheck_own sc t m f c (frame_of (tasked m t).frame f e (h.frames t)) h.sends task e
+      claim;
 }
 
 -- another task is as it was but for its queue and the flags of its claim

@@ -66,12 +66,14 @@ other_any_set p [] i y = refl
 other_any_set p (x ∷ xs) zero y = refl
 other_any_set p (x ∷ xs) (suc i) y = ap (λ b. p x || b) (other_any_set p xs i y)
 
-pub before_set : {X A : Type 0} (f : X → List A) (xs : List X) (i : ℕ) (y : X) → before f (set xs i y) i ≡ before f xs i
+pub before_set : {X A : Type 0} (f : X → List A) (xs : List X) (i : ℕ) (y : X) → before f (set xs i y) i
+    ≡ before f xs i
 before_set f [] i y = refl
 before_set f (x ∷ xs) zero y = refl
 before_set f (x ∷ xs) (suc i) y = ap (λ b. f x ++ b) (before_set f xs i y)
 
-pub behind_set : {X A : Type 0} (f : X → List A) (xs : List X) (i : ℕ) (y : X) → behind f (set xs i y) i ≡ behind f xs i
+pub behind_set : {X A : Type 0} (f : X → List A) (xs : List X) (i : ℕ) (y : X) → behind f (set xs i y) i
+    ≡ behind f xs i
 behind_set f [] i y = refl
 behind_set f (x ∷ xs) zero y = refl
 behind_set f (x ∷ xs) (suc i) y = behind_set f xs i y

@@ -71,7 +71,8 @@ ask_sum_here : (n h used : ℕ) (free : List ℕ) → 1 ≤ n → n + times (λ 
     → 0 + times (λ g. g == h) (h ∷ free) ≡ bit (nat_lt h used)
 ask_sum_here n h used free l e = grind arith
 
-ask_sum_other : (n h g used : ℕ) (free : List ℕ) → (h == g) ≡ false → n + times (λ i. i == g) free ≡ bit (nat_lt g used)
+ask_sum_other : (n h g used : ℕ) (free : List ℕ) → (h == g) ≡ false → n + times (λ i. i == g) free
+    ≡ bit (nat_lt g used)
     → n + times (λ i. i == g) (h ∷ free) ≡ bit (nat_lt g used)
 ask_sum_other n h g used free o e = grind arith
 

@@ -209,7 +209,8 @@ removes_if true k y p n e h = let i : None ≡ y = cc in none_new (number_of k =
 removes_if false k y p n e h = cc
 
 removes_known : (previous : Option Handles) (map : Handles) (p : Place) (n : Bool) → Known p n (removes previous map)
-removes_known None map p n k y e h = let i : None ≡ y = cc in none_new (number_of k == number_of p.key) y p.handle n i h
+removes_known None map p n k y e h = let i : None ≡ y = cc in none_new (number_of k == number_of p.key) y p.handle n i
+    h
 removes_known (Some v) map p n k y e h = removes_if (same_handle (of_key k v) (of_key k map)) k y p n e h
 
 right_part : (a b : Bool) → (a && b) ≡ true → b ≡ true

@@ -80,7 +80,8 @@ claims_fit s (c ∷ d ∷ cs) = false
 abbrev pub spot_fits : Spot → Bool
 spot_fits s = holder_live s && (implies s.fixed s.live && claims_fit s s.claims)
 
--- a frame with a receipt has no claim and nothing to let go, and its call is not answered. At most six handles are to be
+-- a frame with a receipt has no claim and nothing to let go, and its call is not answered. At most six handles are
+-- to be
 -- let go at any time: those of two vouchers
 pub record FrameFits (f : Frame) : Type 0 where
   pub claim : is_some f.receipt ≡ true → f.claim ≡ None
@@ -124,7 +125,8 @@ pub record ValueFits (sc : Scenario) (k : Key) (x : Value) : Type 0 where
 abbrev pub ValuesFit : Scenario → List Living → Type 0
 ValuesFit sc live = (p : Place) (a : Living) → living_at live p ≡ Some a → ValueFits sc p.key a.value
 
--- the numbers of the Made entries of live values: each is within the history and at least 1 but for Default, and no two
+-- the numbers of the Made entries of live values: each is within the history and at least 1 but for Default, and no
+-- two
 -- are the same
 pub record NumbersFit (n : ℕ) (live : List Living) : Type 0 where
   pub within : (p : Place) (a : Living) → living_at live p ≡ Some a → a.made ≤ n
@@ -132,7 +134,8 @@ pub record NumbersFit (n : ℕ) (live : List Living) : Type 0 where
   pub once : (p q : Place) (a b : Living) → living_at live p ≡ Some a → living_at live q ≡ Some b → a.made ≡ b.made
       → p ≡ q
 
--- what a handle has still to be paid for by a question: a claim that was not asked, and one more where the handle is held
+-- what a handle has still to be paid for by a question: a claim that was not asked, and one more where the handle is
+-- held
 -- or has a claim that is back. Default's is never asked for
 abbrev pub burden : Spot → ℕ
 burden s = if s.fixed then 0 else times (λ c. not (asked c)) s.claims + bit

@@ -1,4 +1,5 @@
--- What ties the machine to the sequential store, and what a frame is forming: what the call makes from here on, with its
+-- What ties the machine to the sequential store, and what a frame is forming: what the call makes from here on, with
+-- its
 -- receipt taken, is what the whole call makes in the store.
 use Rattle.std.specs.Prelude.{◌≡◌, ℕ, ◌+◌, ◌≤◌, Bool, true, false, ◌==◌, nat_lt, ◌&&◌, ◌||◌, not, if◌then◌else◌, List, [], ◌∷◌, length, drop, Option, Some, None, Result, Ok, Err, ℤ, pos, is_some}
 use Rattle.std.specs.List.{list_any}
@@ -42,7 +43,8 @@ abbrev pub ahead_create : (ℕ → Option Voucher) → ℕ → List Key → Vouc
 ahead_create names t [] map rest = eval_all (length rest) names t map rest
 ahead_create names t (k ∷ ks) map rest = ahead_first names t (length rest) (k ∷ ks) map (first_of rest)
 
--- whether a create reaches its end or a record that asks a manager, from a place on; a record that is under way asks one
+-- whether a create reaches its end or a record that asks a manager, from a place on; a record that is under way asks
+-- one
 abbrev pub reaches_on : (ℕ → Option Voucher) → ℕ → List Key → Voucher → List ℕ → Bool
 reaches_on names t [] map rest = reaches (length rest) names t map rest
 reaches_on names t (k ∷ ks) map rest = true
@@ -103,7 +105,8 @@ moved_keys_first ks (First.HeaderCut left) = ks
 moved_keys_first ks (First.ContentCut wanted left) = ks
 
 abbrev pub moved_place_first : List Key → ℕ → First → ℕ
-moved_place_first ks place (One r rest) = if (r.key == 4294967295) && not (is_empty (tail_keys ks)) then place else place + (16 + length r.content)
+moved_place_first ks place (One r rest) = if (r.key == 4294967295) && not (is_empty (tail_keys ks)) then place else
+    place + (16 + length r.content)
 moved_place_first ks place First.End = place
 moved_place_first ks place (First.HeaderCut left) = place
 moved_place_first ks place (First.ContentCut wanted left) = place
@@ -131,7 +134,8 @@ map_with v None = v
 map_with v (Some q) = with_key q.key (Some q.handle) v
 
 -- the map that a frame is forming is what the store makes, as far as it has come
-abbrev pub FrameForms : Scenario → List Living → Member → ℕ → ℕ → List Key → Option Place → Option Handles → Option Call → Type 0
+abbrev pub FrameForms : Scenario → List Living → Member → ℕ → ℕ → List Key → Option Place → Option Handles
+    → Option Call → Type 0
 FrameForms sc live x t place ks r None call = Unit {0}
 FrameForms sc live x t place ks r (Some v) None = ⊥
 FrameForms sc live x t place ks r (Some v) (Some call) =
@@ -139,7 +143,8 @@ FrameForms sc live x t place ks r (Some v) (Some call) =
 
 abbrev pub IsForming : Scenario → List Living → Member → ℕ → ℕ → Option Frame → Type 0
 IsForming sc live x t begun None = Unit {0}
-IsForming sc live x t begun (Some f) = FrameForms sc live x t f.at_byte f.keys f.receipt f.forming (nth_call sc t begun)
+IsForming sc live x t begun (Some f) = FrameForms sc live x t f.at_byte f.keys f.receipt f.forming
+    (nth_call sc t begun)
 
 abbrev pub is_answering : Option Frame → Bool
 is_answering None = false
@@ -153,7 +158,8 @@ abbrev pub IsOpen : Option Frame → Type 0
 IsOpen None = Unit {0}
 IsOpen (Some f) = is_open f ≡ true
 
--- what is kept of one task: its calls begun are those answered and one that is under way, all of the phases that ended are
+-- what is kept of one task: its calls begun are those answered and one that is under way, all of the phases that
+-- ended are
 -- answered, none of a phase to come was begun, and what its frame forms
 pub record TaskStands (sc : Scenario) (past : List Entry) (live : List Living) (t : ℕ) (x : Tasked) : Type 0 where
   pub counted : x.begun ≡ calls_in past t + bit (is_answering x.frame)
