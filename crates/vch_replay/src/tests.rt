@@ -216,3 +216,17 @@ fn the_most_bytes(rt: HostRuntime) -> Result<(), Fail> {
     assert!(rt; sink.written().is_empty());
     Ok(())
 }
+
+#[test]
+fn an_array_of_one_byte_too_many(rt: HostRuntime) -> Result<(), Fail> {
+    let alloc = rt.alloc();
+    let words = words_of(alloc, &["recipe"])?;
+    let mut source = SteadySource::new(vec![in alloc; 0u8; 5121]?);
+    let mut sink = SteadySink::new(alloc, 1000)?;
+    assert_eq!(rt;
+        run_steady(alloc, words.as_slice(), &mut source, &mut sink),
+        2
+    );
+    assert_eq!(rt; sink.written(), b"fault size 5121\n".as_slice());
+    Ok(())
+}
