@@ -23,6 +23,7 @@ pub mod Keeps
 pub mod LeaveSpots
 pub mod LeaveSteps
 pub mod Ledgers
+pub mod LeftTasks
 pub mod Lifts
 pub mod LiveKeeps
 pub mod MakeGoes
@@ -40,6 +41,7 @@ pub mod PutSpots
 pub mod Records
 pub mod ReferSpots
 pub mod Refusals
+pub mod RunSums
 pub mod Runs
 pub mod ScheduleRuns
 pub mod SeenCalls
@@ -64,4 +66,3 @@ pub mod Values
 pub mod ValuesMade
 pub mod WorkSpots
 pub mod WorkSteps
-pub mod RunSums
