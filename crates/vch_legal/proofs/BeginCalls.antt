@@ -53,12 +53,12 @@ BareStep sc t m to moving name id mid = Step sc t m
     (replied mid t (calls.Send to moving name id) (store_reply sc m t (calls.Send to moving name id)))
 
 -- a task that gets a message goes on as it was
-queued_begun : (m : Machine) (t to : ℕ) (q : Message) → (tasked (enqueued m to q) t).begun ≡ (tasked m t).begun
+pub queued_begun : (m : Machine) (t to : ℕ) (q : Message) → (tasked (enqueued m to q) t).begun ≡ (tasked m t).begun
 queued_begun m t to q = set_keeps (λ x. x.begun ≡ (tasked m t).begun) m.tasks (to - 1) (t - 1)
     (record (tasked m to) { queue = (tasked m to).queue ++ q ∷ [] }) (λ e. ap (λ i. (get_or m.tasks i idle).begun) e)
     refl
 
-queued_frame : (m : Machine) (t to : ℕ) (q : Message) → (tasked (enqueued m to q) t).frame ≡ (tasked m t).frame
+pub queued_frame : (m : Machine) (t to : ℕ) (q : Message) → (tasked (enqueued m to q) t).frame ≡ (tasked m t).frame
 queued_frame m t to q = set_keeps (λ x. x.frame ≡ (tasked m t).frame) m.tasks (to - 1) (t - 1)
     (record (tasked m to) { queue = (tasked m to).queue ++ q ∷ [] }) (λ e. ap (λ i. (get_or m.tasks i idle).frame) e)
     refl

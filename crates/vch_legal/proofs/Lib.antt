@@ -5,6 +5,7 @@ pub mod BeginFrames
 pub mod BeginOwn
 pub mod BeginSpots
 pub mod BeginSteps
+pub mod Bounds
 pub mod Burdens
 pub mod CarrySteps
 pub mod Cases
@@ -23,6 +24,9 @@ pub mod Keeps
 pub mod LeaveSpots
 pub mod LeaveSteps
 pub mod Ledgers
+pub mod LeftBegins
+pub mod LeftFrames
+pub mod LeftMakes
 pub mod LeftTasks
 pub mod Lifts
 pub mod LiveKeeps
@@ -43,6 +47,7 @@ pub mod ReferSpots
 pub mod Refusals
 pub mod RunSums
 pub mod Runs
+pub mod ScheduleEnds
 pub mod ScheduleRuns
 pub mod SeenCalls
 pub mod SeenHeld

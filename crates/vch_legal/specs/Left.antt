@@ -43,7 +43,8 @@ steps_with (Some c) place ks r = steps_left (Some c) (place_with c place ks r) (
 
 -- of a frame without its claim; a handle that is let go may be claimed
 abbrev pub frame_base : Option Call → Frame → ℕ
-frame_base call f = forming_left f.forming (steps_with call f.at_byte f.keys f.receipt) + receipt_left f.receipt + 3 * length f.lets
+frame_base call f = forming_left f.forming (steps_with call f.at_byte f.keys f.receipt) + receipt_left f.receipt + 3 *
+    length f.lets
 
 -- of a frame, or none
 abbrev pub frame_left : Option Call → Option Frame → ℕ
