@@ -1,34 +1,29 @@
 -- Every move lowers what is left, so each run has a bound, and the schedules come to the end.
-use Rattle.std.proofs.Common.{◌≡◌, ◌≢◌, ℕ, zero, suc, ◌+◌, ◌-◌, ◌<◌, ◌≤◌, Bool, List, [], ◌∷◌, ◌++◌, refl, true, false, not, ◌&&◌, arith, sym, ap, ◌∙◌, subst, length, map, drop, Some, None, Option}
+use Rattle.std.proofs.Common.{◌≡◌, ◌≢◌, ℕ, suc, ◌+◌, ◌-◌, ◌<◌, ◌≤◌, Bool, List, [], ◌∷◌, refl, true, false, ◌&&◌, arith, sym, ap, ◌∙◌, subst, length, map, Some, None, Option}
 use Rattle.std.specs.Prelude.{if◌then◌else◌, is_some, nat_lt}
 use Rattle.vch_base.specs.declared.kind.Kind.{Kind}
 use Rattle.vch_base.specs.declared.kind.Kind.TheVariants as kinds
-use Rattle.vch_recipe.specs.Recipes.{First, One, End, HeaderCut, ContentCut, first_of}
 use Rattle.vch_model.specs.declared.call.Call.{Call}
 use Rattle.vch_model.specs.declared.call.Call.TheVariants as calls
 use Rattle.vch_model.specs.declared.entry.Entry.TheVariants as entries
 use Rattle.vch_model.specs.declared.lists.Scenario.{Scenario}
 use Rattle.vch_model.specs.Lines.{is_task, phases_in}
-use Rattle.vch_model.specs.Scenarios.{IsLimited}
-use Rattle.vch_machine.specs.State.{Handles, Place, Message, Claim, Frame, Machine, tasked, message_of, member_of, start, is_empty}
+use Rattle.vch_machine.specs.State.{Handles, Place, Message, Claim, Frame, Machine, tasked, message_of, start, is_empty}
 use Rattle.vch_machine.specs.Events.{event, event_of, frame_event, phase_event, on_formed, on_place, on_lets, on_the_claim, numbers, ready}
 use Rattle.vch_machine.specs.Frames.{noted}
 use Rattle.vch_machine.specs.Next.{next_kind, task_next, nth_call, call_next, frame_next}
-use Rattle.vch_machine.specs.Schedules.{Move, happens, run, run_from_start, lowest_open, turn_task, move_of, has_ended, in_turn, picked, seed_after, by_seed}
+use Rattle.vch_machine.specs.Schedules.{Move, happens, run, run_from_start}
 use Rattle.vch_machine.specs.Working.{do_work}
-use Rattle.vch_machine.proofs.Others.{Leaves, leaves_of}
+use Rattle.vch_machine.proofs.Others.{leaves_of}
 use Rattle.vch_legal.specs.Facts.{Fits}
 use Rattle.vch_legal.specs.Tie.{first_in, Stands}
 use Rattle.vch_legal.specs.Left.{left}
-use Rattle.vch_legal.proofs.EventSpots.{cases_bool}
 use Rattle.vch_legal.proofs.Shapes.{Shape, shape_of}
 use Rattle.vch_legal.proofs.OwnSteps.{Before}
 use Rattle.vch_legal.proofs.Nexts.{Called, called, forms_at}
-use Rattle.vch_legal.proofs.EventSteps.{in_range, Happened, event_happens}
+use Rattle.vch_legal.proofs.EventSteps.{in_range, event_happens}
 use Rattle.vch_legal.proofs.Runs.{start_stands, happens_stands, reached_stands}
-use Rattle.vch_legal.proofs.ScheduleRuns.{turn_some}
-use Rattle.vch_legal.proofs.LeftTasks.{Left}
-use Rattle.vch_legal.proofs.LeftFrames.{Framed, Lower, Calls, let_go_lower, recheck_lower, ask_lower, refuse_lower, work_lower}
+use Rattle.vch_legal.proofs.LeftFrames.{Framed, Lower, Calls, let_go_lower, recheck_lower, ask_lower, work_lower}
 use Rattle.vch_legal.proofs.LeftMakes.{MayLower, make_lower, refer_lower, place_lower}
 use Rattle.vch_legal.proofs.LeftBegins.{do_begin_lower}
 

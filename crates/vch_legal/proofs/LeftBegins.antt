@@ -1,25 +1,21 @@
 -- Begin lowers what is left.
-use Rattle.std.proofs.Common.{◌≡◌, ◌≢◌, ℕ, zero, suc, ◌+◌, ◌-◌, ◌*◌, ◌<◌, ◌≤◌, Bool, List, [], ◌∷◌, ◌++◌, refl, true, false, not, ◌&&◌, ◌||◌, arith, sym, ap, ◌∙◌, subst, length, length-append, map, drop, get_or, Some, None, Option}
-use Rattle.std.proofs.lemmas.List.{length-set}
-use Rattle.std.specs.Prelude.{if◌then◌else◌, is_some, ◌==◌, nat_lt, slice_get}
+use Rattle.std.proofs.Common.{◌≡◌, ℕ, zero, suc, ◌+◌, ◌-◌, ◌*◌, ◌<◌, ◌≤◌, Bool, List, [], ◌∷◌, ◌++◌, refl, true, false, not, ◌||◌, arith, sym, ap, ◌∙◌, length, length-append, drop, Some, None, Option}
+use Rattle.std.specs.Prelude.{if◌then◌else◌, ◌==◌, nat_lt, slice_get}
 use Rattle.vch_base.specs.declared.key.Key.{Key}
 use Rattle.vch_base.specs.declared.key.Key.TheVariants as keys
-use Rattle.vch_base.specs.declared.kind.Kind.{Kind}
-use Rattle.vch_base.specs.declared.kind.Kind.TheVariants as kinds
 use Rattle.vch_model.specs.declared.call.Call.{Call}
 use Rattle.vch_model.specs.declared.call.Call.TheVariants as calls
 use Rattle.vch_model.specs.declared.call.Line.{Line}
 use Rattle.vch_model.specs.declared.entry.Reply.{Reply}
 use Rattle.vch_model.specs.declared.lists.Scenario.{Scenario}
-use Rattle.vch_model.specs.Lines.{is_task, lines_of, line_at}
-use Rattle.vch_machine.specs.State.{Handles, no_handles, Place, Message, Frame, Tasked, Machine, idle, tasked, with_tasked}
-use Rattle.vch_machine.specs.Beginning.{begun_one, fresh_frame, leaving_frame, key_if, store_reply, or_want, dropped, dequeued, enqueued, is_full, first_voucher, begin_recv, begin_send, begin_call, begin_line, do_begin}
+use Rattle.vch_model.specs.Lines.{is_task, lines_of}
+use Rattle.vch_machine.specs.State.{Handles, no_handles, Message, Frame, Tasked, Machine, tasked, with_tasked}
+use Rattle.vch_machine.specs.Beginning.{begun_one, fresh_frame, leaving_frame, key_if, store_reply, or_want, dropped, dequeued, enqueued, is_full, first_voucher, begin_recv, begin_call, begin_line, do_begin}
 use Rattle.vch_machine.specs.Frames.{closed, with_frame, replied}
 use Rattle.vch_machine.specs.Naming.{one_less, handles_of, orphaned}
 use Rattle.vch_machine.specs.Next.{nth_call, call_in}
 use Rattle.vch_legal.specs.Left.{steps_left, call_left, frame_left, lines_left, task_left}
 use Rattle.vch_legal.proofs.OwnTask.{orphaned_few}
-use Rattle.vch_legal.proofs.SeenTasks.{own_task}
 use Rattle.vch_legal.proofs.BeginSteps.{counted, counted_task, longer}
 use Rattle.vch_legal.proofs.LeftTasks.{Left, task_set, frame_set, same_task, closed_left}
 use Rattle.vch_legal.proofs.LeftFrames.{Lower}

@@ -1,35 +1,23 @@
 -- Each event of a frame lowers what is left.
-use Rattle.std.proofs.Common.{◌≡◌, ℕ, zero, suc, ◌+◌, ◌-◌, ◌*◌, ◌<◌, ◌≤◌, Bool, List, [], ◌∷◌, ◌++◌, refl, true, false, not, ◌&&◌, ◌||◌, arith, sym, ap, ◌∙◌, subst, length, length-append, map, drop, Some, None, Option, Ok, Err, Result}
-use Rattle.std.proofs.lemmas.List.{length-map}
-use Rattle.std.specs.Prelude.{if◌then◌else◌, is_some, ◌==◌, ℤ, pos}
+use Rattle.std.proofs.Common.{◌≡◌, ℕ, suc, ◌+◌, ◌-◌, ◌*◌, ◌<◌, ◌≤◌, Bool, List, [], ◌∷◌, ◌++◌, refl, true, false, not, ◌&&◌, arith, sym, ap, ◌∙◌, subst, length, length-append, drop, Some, None, Option, Ok, Err, Result}
+use Rattle.std.specs.Prelude.{if◌then◌else◌, is_some, ℤ, pos}
 use Rattle.vch_base.specs.declared.key.Key.{Key}
-use Rattle.vch_base.specs.declared.kind.Kind.TheVariants as kinds
-use Rattle.vch_base.specs.declared.value.Value.{Value}
-use Rattle.vch_base.specs.Keys.{key_of}
 use Rattle.vch_recipe.specs.Recipes.{First, One, End, HeaderCut, ContentCut, first_of}
 use Rattle.vch_recipe.specs.declared.recipe.Recipe.{Recipe}
 use Rattle.vch_model.specs.declared.call.Call.{Call}
 use Rattle.vch_model.specs.declared.call.Call.TheVariants as calls
-use Rattle.vch_model.specs.declared.entry.Reply.{Reply}
 use Rattle.vch_model.specs.declared.lists.Scenario.{Scenario}
-use Rattle.vch_machine.specs.State.{Handles, of_key, with_key, Place, Living, Named, Claim, Frame, Tasked, Tally, Machine, tasked, handle_of, is_held, is_empty}
-use Rattle.vch_machine.specs.Frames.{closed, with_frame, tallied, replied, refuse}
-use Rattle.vch_machine.specs.Leaving.{is_fixed, claim_if, new_claim, more_claims, do_let_go, released, with_answer, one_ask, do_ask, again, do_recheck}
-use Rattle.vch_machine.specs.Making.{Asked, asked_by, asked_first, asked_transfer, tail_keys, moved, fresh_handle, minted, race_claim, back_claim, on_claim, on_task, on_claims, given_receipt, made_at, make_done, make_asked, do_make, one_refer, do_refer}
-use Rattle.vch_machine.specs.Naming.{item, option_places}
+use Rattle.vch_machine.specs.State.{Handles, Place, Claim, Frame, Machine, tasked, is_held}
+use Rattle.vch_machine.specs.Frames.{closed, with_frame, tallied, refuse}
+use Rattle.vch_machine.specs.Leaving.{claim_if, new_claim, do_let_go, released, with_answer, one_ask, do_ask, again, do_recheck}
+use Rattle.vch_machine.specs.Naming.{option_places}
 use Rattle.vch_machine.specs.Next.{nth_call}
-use Rattle.vch_machine.specs.Placing.{ended}
 use Rattle.vch_machine.specs.Working.{Worked, work_first, work_done, size_of}
-use Rattle.vch_legal.specs.Facts.{Fits, OptionFits, FrameFits}
-use Rattle.vch_legal.specs.Tie.{moved_place, moved_keys, moved_place_first, moved_keys_first, place_with, keys_with}
-use Rattle.vch_legal.specs.Left.{record_keys, steps_left, claim_left, receipt_left, forming_left, steps_with, frame_base, frame_left}
-use Rattle.vch_legal.proofs.EventSpots.{cases_bool}
+use Rattle.vch_legal.specs.Left.{steps_left, claim_left, receipt_left, forming_left, steps_with, frame_left}
 use Rattle.vch_legal.proofs.OwnTask.{option_few, work_few}
-use Rattle.vch_legal.proofs.SeenTasks.{claims_task}
-use Rattle.vch_legal.proofs.Forming.{After, rest_of}
+use Rattle.vch_legal.proofs.Forming.{rest_of}
 use Rattle.vch_legal.proofs.Creates.{behind}
-use Rattle.vch_legal.proofs.Nexts.{at_keys, moved_is}
-use Rattle.vch_legal.proofs.LeftTasks.{Left, frame_set, closed_left, race_all, back_all}
+use Rattle.vch_legal.proofs.LeftTasks.{Left, frame_set, closed_left}
 
 -- a task with a frame
 pub record Framed (t : ℕ) (m : Machine) (f : Frame) : Type 0 where

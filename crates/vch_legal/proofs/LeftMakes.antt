@@ -1,10 +1,9 @@
 -- Make, Refer and Place lower what is left.
-use Rattle.std.proofs.Common.{◌≡◌, ℕ, zero, suc, ◌+◌, ◌-◌, ◌*◌, ◌<◌, ◌≤◌, Bool, List, [], ◌∷◌, ◌++◌, refl, true, false, not, ◌&&◌, ◌||◌, arith, sym, ap, ◌∙◌, subst, length, length-append, map, drop, get_or, Some, None, Option, Ok, Err, Result}
+use Rattle.std.proofs.Common.{◌≡◌, ℕ, ◌+◌, ◌-◌, ◌*◌, ◌<◌, ◌≤◌, Bool, List, [], ◌∷◌, ◌++◌, refl, true, false, not, ◌&&◌, arith, sym, ap, ◌∙◌, subst, length, length-append, drop, Some, None, Option, Ok, Err, Result}
 use Rattle.std.proofs.lemmas.List.{length-map, length-set}
 use Rattle.std.specs.Prelude.{if◌then◌else◌, is_some, ◌==◌, ℤ, pos}
 use Rattle.vch_base.specs.declared.key.Key.{Key}
 use Rattle.vch_base.specs.declared.value.Value.{Value}
-use Rattle.vch_base.specs.Keys.{key_of}
 use Rattle.vch_recipe.specs.Recipes.{First, One, End, HeaderCut, ContentCut, first_of}
 use Rattle.vch_recipe.specs.declared.recipe.Recipe.{Recipe}
 use Rattle.vch_model.specs.declared.call.Call.{Call}
@@ -12,25 +11,24 @@ use Rattle.vch_model.specs.declared.call.Call.TheVariants as calls
 use Rattle.vch_model.specs.declared.entry.Reply.{Reply}
 use Rattle.vch_model.specs.declared.entry.Reply.TheVariants as replies
 use Rattle.vch_model.specs.declared.lists.Scenario.{Scenario}
-use Rattle.vch_machine.specs.State.{Handles, of_key, with_key, Place, Living, Named, Message, Claim, Frame, Tasked, Tally, Machine, idle, tasked, with_tasked, handle_of, is_empty}
+use Rattle.vch_machine.specs.State.{Handles, of_key, with_key, Place, Living, Named, Message, Frame, Tasked, Machine, tasked, with_tasked, handle_of, is_empty}
 use Rattle.vch_machine.specs.Beginning.{enqueued, is_full}
-use Rattle.vch_machine.specs.Frames.{closed, with_frame, tallied, replied, refuse}
-use Rattle.vch_machine.specs.Making.{Asked, asked_by, asked_first, asked_transfer, tail_keys, moved, fresh_handle, minted, race_claim, back_claim, on_claim, on_frame, on_task, on_claims, given_receipt, made_at, make_done, make_asked, do_make, one_refer, do_refer}
+use Rattle.vch_machine.specs.Frames.{closed, with_frame, tallied, replied}
+use Rattle.vch_machine.specs.Making.{Asked, asked_by, asked_first, asked_transfer, tail_keys, fresh_handle, minted, back_claim, on_claim, on_frame, on_task, on_claims, given_receipt, made_at, make_done, make_asked, do_make, one_refer, do_refer}
 use Rattle.vch_machine.specs.Naming.{item, name_of, name_for, one_less, with_name, handles_of, orphaned, doubled}
 use Rattle.vch_machine.specs.Next.{nth_call}
 use Rattle.vch_machine.specs.Placing.{ended, moved_name, place_create, place_send, place_recv, do_place}
-use Rattle.vch_legal.specs.Facts.{Fits, OptionFits, FrameFits}
+use Rattle.vch_legal.specs.Facts.{Fits, OptionFits}
 use Rattle.vch_legal.specs.Tie.{moved_place, moved_keys, moved_place_first, moved_keys_first}
 use Rattle.vch_legal.specs.Left.{record_keys, steps_left, claim_left, receipt_left, forming_left, steps_with, frame_base, frame_left}
-use Rattle.vch_legal.proofs.EventSpots.{cases_bool}
 use Rattle.vch_legal.proofs.OwnTask.{orphaned_few, doubled_few, named_begun}
 use Rattle.vch_legal.proofs.SeenTasks.{own_task, claims_task}
-use Rattle.vch_legal.proofs.Forming.{After, rest_of}
+use Rattle.vch_legal.proofs.Forming.{rest_of}
 use Rattle.vch_legal.proofs.Creates.{behind}
 use Rattle.vch_legal.proofs.Nexts.{at_keys, moved_is}
 use Rattle.vch_legal.proofs.BeginCalls.{queued_begun, queued_frame}
 use Rattle.vch_legal.proofs.LeftTasks.{Left, frame_set, same_task, closed_left, race_all, back_all}
-use Rattle.vch_legal.proofs.LeftFrames.{Framed, Lower, current_call, framed_lower, closed_lower, Calls, steps_at, over_lower, refuse_lower, on_lower}
+use Rattle.vch_legal.proofs.LeftFrames.{Lower, current_call, framed_lower, Calls, steps_at, over_lower, refuse_lower, on_lower}
 
 abbrev pub MayLower : Scenario → Machine → Option Machine → Type 0
 MayLower sc m None = Unit {0}

@@ -1,21 +1,18 @@
 -- What is left where one task of all is replaced, and where claims are raced or back.
-use Rattle.std.proofs.Common.{◌≡◌, ℕ, zero, suc, ◌+◌, ◌-◌, ◌*◌, ◌<◌, ◌≤◌, Bool, List, [], ◌∷◌, ◌++◌, refl, true, false, not, ◌&&◌, arith, sym, ap, ◌∙◌, subst, length, length-append, map, drop, get_or, Some, None, Option}
+use Rattle.std.proofs.Common.{◌≡◌, ℕ, zero, suc, ◌+◌, ◌-◌, ◌*◌, ◌<◌, ◌≤◌, Bool, List, [], ◌∷◌, ◌++◌, refl, true, false, not, ◌&&◌, arith, ap, ◌∙◌, subst, length, length-append, map, drop, get_or, Some, None, Option}
 use Rattle.std.proofs.Math.ListN.{set}
-use Rattle.std.proofs.lemmas.List.{get_or-set_same}
 use Rattle.std.specs.Prelude.{if◌then◌else◌, is_some}
 use Rattle.std.specs.List.{flat_map}
 use Rattle.vch_base.specs.declared.key.Key.{Key}
 use Rattle.vch_model.specs.declared.call.Call.{Call}
 use Rattle.vch_model.specs.declared.lists.Scenario.{Scenario}
 use Rattle.vch_model.specs.Lines.{lines_of}
-use Rattle.vch_machine.specs.State.{Handles, Place, same_place, Claim, Frame, Tasked, Machine, Message, idle, tasked, with_tasked, frame_claims, claim_at, claims_on, is_empty}
-use Rattle.vch_machine.specs.Beginning.{enqueued}
+use Rattle.vch_machine.specs.State.{Handles, Place, same_place, Claim, Frame, Tasked, Machine, idle, tasked, with_tasked, frame_claims, claim_at, claims_on}
 use Rattle.vch_machine.specs.Frames.{closed, with_frame}
 use Rattle.vch_machine.specs.Making.{race_claim, back_claim, on_claim, on_frame, on_task, on_claims}
 use Rattle.vch_machine.specs.Next.{nth_call}
 use Rattle.vch_legal.specs.Facts.{Fits, Spot, spot, spot_fits}
-use Rattle.vch_legal.specs.Left.{claim_left, receipt_left, forming_left, frame_base, frame_left, lines_left, task_left, tasks_left}
-use Rattle.vch_legal.proofs.EventSpots.{cases_bool}
+use Rattle.vch_legal.specs.Left.{claim_left, frame_base, frame_left, lines_left, task_left, tasks_left}
 
 -- one task is replaced
 set_left : (sc : Scenario) (t : ℕ) (xs : List Tasked) (i : ℕ) (y : Tasked) → i < length xs

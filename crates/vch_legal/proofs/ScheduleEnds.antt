@@ -1,5 +1,5 @@
 -- With a bound above what is left at the start, the schedules come to the end of the last phase.
-use Rattle.std.proofs.Common.{◌≡◌, ℕ, zero, suc, ◌+◌, ◌<◌, ◌≤◌, Bool, List, [], ◌∷◌, refl, true, false, arith, sym, ap, ◌∙◌, subst, length, Some, None, Option}
+use Rattle.std.proofs.Common.{◌≡◌, ℕ, zero, suc, ◌+◌, ◌<◌, ◌≤◌, Bool, List, refl, true, arith, subst, length, Some, None, Option}
 use Rattle.std.specs.Prelude.{is_some}
 use Rattle.vch_model.specs.declared.lists.Scenario.{Scenario}
 use Rattle.vch_model.specs.Scenarios.{IsLimited}
@@ -11,7 +11,7 @@ use Rattle.vch_legal.specs.Left.{left}
 use Rattle.vch_legal.proofs.EventSpots.{cases_bool}
 use Rattle.vch_legal.proofs.Runs.{start_stands, happens_stands}
 use Rattle.vch_legal.proofs.Turns.{all_tasks}
-use Rattle.vch_legal.proofs.ScheduleRuns.{turn_some, IsReady, all_ready, seed_some}
+use Rattle.vch_legal.proofs.ScheduleRuns.{turn_some, all_ready, seed_some}
 use Rattle.vch_legal.proofs.Bounds.{move_lowers}
 
 some_eq : {x y : Machine} → Some x ≡ Some y → x ≡ y
