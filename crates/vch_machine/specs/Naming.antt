@@ -29,11 +29,6 @@ abbrev pub name_of : List Named → Handles → Option ℕ
 name_of [] v = None
 name_of (n ∷ names) v = if same_handles n.voucher v then Some n.name else name_of names v
 
--- the user references of a name
-abbrev pub refs_of : List Named → ℕ → ℕ
-refs_of [] name = 0
-refs_of (n ∷ names) name = if n.name == name then n.refs else refs_of names name
-
 -- a name with one more user reference
 abbrev pub one_more : List Named → ℕ → List Named
 one_more [] name = []
