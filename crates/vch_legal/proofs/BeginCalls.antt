@@ -27,11 +27,7 @@ use Rattle.vch_legal.proofs.OwnSteps.{Before, Answered}
 use Rattle.vch_legal.proofs.PlaceSteps.{IsStep}
 use Rattle.vch_legal.proofs.BeginSteps.{Starting, counted, counted_seen, counted_task, begun_answer, unanswered, quiet_answer, wanting_answer, longer, drop_answer}
 use Rattle.vch_legal.proofs.BeginFrames.{framed_begin, create_begins, receives_after, named_begins}
-
-step_if : (sc : Scenario) (t : ℕ) (m a b : Machine) (c : Bool) → (c ≡ true → Step sc t m a)
-    → (c ≡ false → Step sc t m b) → Step sc t m (if c then a else b)
-step_if sc t m a b true x y = x refl
-step_if sc t m a b false x y = y refl
+use Rattle.vch_legal.proofs.LeaveSteps.{step_if}
 
 -- a message without a voucher
 abbrev bare : ℕ → ℕ → Message

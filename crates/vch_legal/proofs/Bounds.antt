@@ -21,11 +21,12 @@ use Rattle.vch_legal.specs.Left.{left}
 use Rattle.vch_legal.proofs.Shapes.{Shape, shape_of}
 use Rattle.vch_legal.proofs.OwnSteps.{Before}
 use Rattle.vch_legal.proofs.Nexts.{Called, called, forms_at}
-use Rattle.vch_legal.proofs.EventSteps.{in_range, event_happens}
+use Rattle.vch_legal.proofs.EventSteps.{in_range, event_happens, same_answer}
 use Rattle.vch_legal.proofs.Runs.{start_stands, happens_stands, reached_stands}
 use Rattle.vch_legal.proofs.LeftFrames.{Framed, Lower, Calls, let_go_lower, recheck_lower, ask_lower, work_lower}
 use Rattle.vch_legal.proofs.LeftMakes.{MayLower, make_lower, refer_lower, place_lower}
 use Rattle.vch_legal.proofs.LeftBegins.{do_begin_lower}
+use Rattle.vch_legal.proofs.WorkSteps.{no_work}
 
 formed_lower : (sc : Scenario) (m : Machine) (g : Handles → Call → Option Machine) (v : Option Handles)
     (call : Option Call) → ((w : Handles) (c : Call) → v ≡ Some w → call ≡ Some c → MayLower sc m (g w c))
@@ -49,15 +50,7 @@ claim_lower : (sc : Scenario) (m : Machine) (g : Claim → Machine) (c : Option 
 claim_lower sc m g None h = tt
 claim_lower sc m g (Some c) h = h c refl
 
-same_answer : (o : Option Claim) (c d : Claim) (b : Bool) → o ≡ Some c → o ≡ Some d → is_some c.answer ≡ b
-    → is_some d.answer ≡ b
-same_answer o c d b x y z = let k : c ≡ d = cc in subst (λ (a : Claim). is_some a.answer ≡ b) k z
-
 -- Work is of a create alone
-no_work : (b : Bool) → (if b then Some kinds.Place else Some kinds.Make) ≡ Some kinds.Work → ⊥
-no_work true e = cc
-no_work false e = cc
-
 work_by_call : (sc : Scenario) (t : ℕ) (m : Machine) (f : Frame) (v : Handles) (call : Call) → Calls sc t m f call
     → f.receipt ≡ None → f.lets ≡ [] → call_next (tasked m t).names f.at_byte f.keys (Some call) ≡ Some kinds.Work
     → Lower sc m (do_work m t f v call)

@@ -52,7 +52,7 @@ claim_step : (sc : Scenario) (t : ℕ) (m : Machine) (g : Claim → Machine) (c 
 claim_step sc t m g None h = tt
 claim_step sc t m g (Some c) h = λ _. h c refl
 
-same_answer : (o : Option Claim) (c d : Claim) (b : Bool) → o ≡ Some c → o ≡ Some d → is_some c.answer ≡ b
+pub same_answer : (o : Option Claim) (c d : Claim) (b : Bool) → o ≡ Some c → o ≡ Some d → is_some c.answer ≡ b
     → is_some d.answer ≡ b
 same_answer o c d b x y z = let k : c ≡ d = cc in subst (λ (a : Claim). is_some a.answer ≡ b) k z
 
