@@ -27,6 +27,7 @@ use Rattle.vch_legal.proofs.StartFits.{rest_held}
 use Rattle.vch_legal.proofs.SeenHeld.{seen_held, vouchers_hold}
 use Rattle.vch_legal.proofs.SeenValues.{at_most_once, each_of, all_listed, found_place}
 use Rattle.vch_legal.proofs.OwnSteps.{Before}
+use Rattle.vch_legal.proofs.SeenReleased.{key_number}
 
 keys_next : (b : Bool) → is_some (if b then Some kinds.Place else Some kinds.Make) ≡ true
 keys_next true = refl
@@ -243,11 +244,6 @@ held_plainly p (x ∷ xs) n h =
         → ((a || b) || list_any (vouchers_hold p) xs) ≡ true
     by_frame None e a b h i = join a b _ _ h i
     by_frame (Some f) e a b h i = cc
-
-key_number : (k : Key) → key_of (number_of k) ≡ Some k
-key_number keys.Importance = refl
-key_number keys.Bank = refl
-key_number keys.User = refl
 
 -- where no frame is, each listed value is held in the store
 pub rest_all_held : (sc : Scenario) (m : Machine) → Fits sc m → any_frame m.tasks ≡ false → all_held (seen m) ≡ true

@@ -27,11 +27,7 @@ use Rattle.vch_legal.proofs.OwnSteps.{Before, Answered}
 use Rattle.vch_legal.proofs.PlaceSteps.{IsStep}
 use Rattle.vch_legal.proofs.BeginSteps.{Starting, counted, counted_seen, counted_task, begun_answer, unanswered, quiet_answer, wanting_answer, longer, drop_answer}
 use Rattle.vch_legal.proofs.BeginFrames.{framed_begin, create_begins, receives_after, named_begins}
-
-step_if : (sc : Scenario) (t : ℕ) (m a b : Machine) (c : Bool) → (c ≡ true → Step sc t m a)
-    → (c ≡ false → Step sc t m b) → Step sc t m (if c then a else b)
-step_if sc t m a b true x y = x refl
-step_if sc t m a b false x y = y refl
+use Rattle.vch_legal.proofs.LeaveSteps.{step_if}
 
 -- a message without a voucher
 abbrev bare : ℕ → ℕ → Message
@@ -53,12 +49,12 @@ BareStep sc t m to moving name id mid = Step sc t m
     (replied mid t (calls.Send to moving name id) (store_reply sc m t (calls.Send to moving name id)))
 
 -- a task that gets a message goes on as it was
-queued_begun : (m : Machine) (t to : ℕ) (q : Message) → (tasked (enqueued m to q) t).begun ≡ (tasked m t).begun
+pub queued_begun : (m : Machine) (t to : ℕ) (q : Message) → (tasked (enqueued m to q) t).begun ≡ (tasked m t).begun
 queued_begun m t to q = set_keeps (λ x. x.begun ≡ (tasked m t).begun) m.tasks (to - 1) (t - 1)
     (record (tasked m to) { queue = (tasked m to).queue ++ q ∷ [] }) (λ e. ap (λ i. (get_or m.tasks i idle).begun) e)
     refl
 
-queued_frame : (m : Machine) (t to : ℕ) (q : Message) → (tasked (enqueued m to q) t).frame ≡ (tasked m t).frame
+pub queued_frame : (m : Machine) (t to : ℕ) (q : Message) → (tasked (enqueued m to q) t).frame ≡ (tasked m t).frame
 queued_frame m t to q = set_keeps (λ x. x.frame ≡ (tasked m t).frame) m.tasks (to - 1) (t - 1)
     (record (tasked m to) { queue = (tasked m to).queue ++ q ∷ [] }) (λ e. ap (λ i. (get_or m.tasks i idle).frame) e)
     refl

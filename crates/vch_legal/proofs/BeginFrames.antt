@@ -31,6 +31,7 @@ use Rattle.vch_legal.proofs.Standing.{Step}
 use Rattle.vch_legal.proofs.Nexts.{forms_in}
 use Rattle.vch_legal.proofs.Refusals.{names_seen}
 use Rattle.vch_legal.proofs.BeginSteps.{Starting, counted, counted_seen, counted_task, start_number, quiet_answer, no_create, longer}
+use Rattle.vch_legal.proofs.LeaveSteps.{step_if}
 
 -- a frame begins
 pub framed_begin : (sc : Scenario) (t : ℕ) (m : Machine) (call : Call) (v : Handles) (ks : List Key)
@@ -53,11 +54,6 @@ framed_begin sc t m call v ks c forms = record {
     own = own_task (counted m t) t (record (tasked (counted m t) t) { frame = Some (fresh_frame v ks) })
         (longer m.tasks (t - 1) (begun_one (tasked m t)) c.range)
         ∙ ap (λ (x : Tasked). record x { frame = Some (fresh_frame v ks) }) (counted_task m t c.range)
-
-step_if : (sc : Scenario) (t : ℕ) (m a b : Machine) (c : Bool) → (c ≡ true → Step sc t m a)
-    → (c ≡ false → Step sc t m b) → Step sc t m (if c then a else b)
-step_if sc t m a b true x y = x refl
-step_if sc t m a b false x y = y refl
 
 pub create_begins : (sc : Scenario) (want : Bool) (t : ℕ) (m : Machine) (bytes : List ℕ)
     → Starting sc t m (calls.Create bytes)

@@ -29,6 +29,7 @@ use Rattle.vch_legal.proofs.SeenCalls.{seen_less}
 use Rattle.vch_legal.proofs.Lifts.{Lives}
 use Rattle.vch_legal.proofs.Standing.{Step}
 use Rattle.vch_legal.proofs.OwnSteps.{Before, Answered, unformed, call_follows, closed_answered}
+use Rattle.vch_legal.proofs.Refusals.{if_same}
 
 -- a task that begins its next call
 pub record Starting (sc : Scenario) (t : ℕ) (m : Machine) (call : Call) : Type 0 where
@@ -107,10 +108,6 @@ pub plain_answer : (sc : Scenario) (t : ℕ) (m : Machine) (call : Call) (reply 
 plain_answer sc t m call reply c store answer =
     begun_answer sc t m (counted m t) call reply c refl refl (ap (λ (x : Tasked). x.begun) (counted_task m t c.range))
     (unanswered sc t m call c) (counted_seen m t ∙ sym store) answer
-
-pub if_same : {A : Type 0} (b : Bool) (x y : A) → y ≡ x → (if b then x else y) ≡ x
-if_same true x y e = refl
-if_same false x y e = e
 
 -- the store's reply, where the call leaves the store and gives no voucher
 pub quiet_answer : (sc : Scenario) (t : ℕ) (m : Machine) (call : Call) → Starting sc t m call

@@ -52,7 +52,7 @@ claim_step : (sc : Scenario) (t : ℕ) (m : Machine) (g : Claim → Machine) (c 
 claim_step sc t m g None h = tt
 claim_step sc t m g (Some c) h = λ _. h c refl
 
-same_answer : (o : Option Claim) (c d : Claim) (b : Bool) → o ≡ Some c → o ≡ Some d → is_some c.answer ≡ b
+pub same_answer : (o : Option Claim) (c d : Claim) (b : Bool) → o ≡ Some c → o ≡ Some d → is_some c.answer ≡ b
     → is_some d.answer ≡ b
 same_answer o c d b x y z = let k : c ≡ d = cc in subst (λ (a : Claim). is_some a.answer ≡ b) k z
 
@@ -131,7 +131,7 @@ of_step sc want t m None (Some kind) fits s l e k = may_be sc t m _
 of_step sc want t m (Some f) (Some kind) fits s l e k =
     kind_step sc want t m f kind fits s e k (shape_of f (tasked m t).names (nth_call sc t (tasked m t).begun) kind k)
 
-in_range : (sc : Scenario) (m : Machine) (t : ℕ) → Fits sc m → is_task sc t ≡ true → t - 1 < length m.tasks
+pub in_range : (sc : Scenario) (m : Machine) (t : ℕ) → Fits sc m → is_task sc t ≡ true → t - 1 < length m.tasks
 in_range sc m t fits task = subst (λ n. t - 1 < n) (sym fits.tasks) (below t (length sc.flags) task)
   where
     below : (t n : ℕ) → (nat_lt 0 t && nat_lt t (n + 1)) ≡ true → t - 1 < n
@@ -142,7 +142,8 @@ pub record Happened (sc : Scenario) (t : ℕ) (m : Machine) (o : Option Machine)
   pub task : is_some o ≡ true → is_task sc t ≡ true
   pub step : is_some o ≡ true → MayStep sc t m o
 
-event_happens : (sc : Scenario) (want : Bool) (t : ℕ) (m : Machine) → Stands sc m → Happened sc t m (event sc want m t)
+pub event_happens : (sc : Scenario) (want : Bool) (t : ℕ) (m : Machine) → Stands sc m
+    → Happened sc t m (event sc want m t)
 unfolding event
 event_happens sc want t m s = by_task (is_task sc t) refl
   where

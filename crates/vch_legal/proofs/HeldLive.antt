@@ -11,6 +11,8 @@ use Rattle.vch_legal.proofs.Forming.{LiveAt}
 use Rattle.vch_legal.proofs.SeenNames.{LiveAll, AllLive}
 use Rattle.vch_legal.proofs.SeenTasks.{none_at}
 use Rattle.vch_legal.proofs.EventSpots.{cases_bool}
+use Rattle.vch_legal.proofs.LeaveSpots.{or_left, or_right}
+use Rattle.vch_legal.proofs.SeenHeld.{not_true}
 
 holder_is_live : (s : Spot) → spot_fits s ≡ true → s.held ≡ true → s.live ≡ true
 holder_is_live s h e = grind arith
@@ -19,10 +21,6 @@ expected_is_live : (s : Spot) → spot_fits s ≡ true → s.expected ≡ true �
 expected_is_live s h e = grind arith
 
 -- a handle that is not live is not held, and none expects it
-not_true : (b : Bool) → (b ≡ true → ⊥) → b ≡ false
-not_true true f = absurd (f refl)
-not_true false f = refl
-
 both_ways : {b : Bool} → b ≡ true → b ≡ false → ⊥
 both_ways e g = let k : true ≡ false = sym e ∙ g in cc
 
@@ -61,12 +59,6 @@ voucher_live live v h = record {
     at_key : (k : Key) (x : Option ℕ) → of_key k v ≡ x → LiveAt live k x
     at_key k None e = tt
     at_key k (Some i) e = h (record { key = k; handle = i }) (ap (λ o. is_handle o i) e ∙ own i)
-
-or_left : (a b : Bool) → a ≡ true → (a || b) ≡ true
-or_left a b e = grind arith
-
-or_right : (a b : Bool) → b ≡ true → (a || b) ≡ true
-or_right a b e = grind arith
 
 -- the voucher that a frame forms
 pub forming_live : (sc : Scenario) (m : Machine) (t : ℕ) (f : Frame) (v : Handles) → Fits sc m → (tasked m t).frame

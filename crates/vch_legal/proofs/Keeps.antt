@@ -140,7 +140,7 @@ phase_keeps sc m n h e = by_test (is_empty (ready sc m (numbers (length sc.flags
 
 -- The start
 
-idle_task : (flags : List Flags) (i : ℕ) → get_or (map (λ _. idle) flags) i idle ≡ idle
+pub idle_task : (flags : List Flags) (i : ℕ) → get_or (map (λ _. idle) flags) i idle ≡ idle
 idle_task [] i = refl
 idle_task (x ∷ flags) zero = refl
 idle_task (x ∷ flags) (suc i) = idle_task flags i

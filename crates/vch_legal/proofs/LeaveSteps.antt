@@ -192,7 +192,7 @@ released_step sc t m f c a fits s e live plain held expected =
     own = member_same (without_place m.live c.place) m.live c.place (tasked m t) (released_agree m c.place)
         (none_at (λ x. known_to x c.place) m.tasks (t - 1) refl unknown)
 
-step_if : (sc : Scenario) (t : ℕ) (m a b : Machine) (c : Bool) → (c ≡ true → Step sc t m a)
+pub step_if : (sc : Scenario) (t : ℕ) (m a b : Machine) (c : Bool) → (c ≡ true → Step sc t m a)
     → (c ≡ false → Step sc t m b) → Step sc t m (if c then a else b)
 step_if sc t m a b true x y = x refl
 step_if sc t m a b false x y = y refl

@@ -5,6 +5,7 @@ pub mod BeginFrames
 pub mod BeginOwn
 pub mod BeginSpots
 pub mod BeginSteps
+pub mod Bounds
 pub mod Burdens
 pub mod CarrySteps
 pub mod Cases
@@ -23,6 +24,10 @@ pub mod Keeps
 pub mod LeaveSpots
 pub mod LeaveSteps
 pub mod Ledgers
+pub mod LeftBegins
+pub mod LeftFrames
+pub mod LeftMakes
+pub mod LeftTasks
 pub mod Lifts
 pub mod LiveKeeps
 pub mod MakeGoes
@@ -40,7 +45,9 @@ pub mod PutSpots
 pub mod Records
 pub mod ReferSpots
 pub mod Refusals
+pub mod RunSums
 pub mod Runs
+pub mod ScheduleEnds
 pub mod ScheduleRuns
 pub mod SeenCalls
 pub mod SeenHeld
@@ -64,4 +71,3 @@ pub mod Values
 pub mod ValuesMade
 pub mod WorkSpots
 pub mod WorkSteps
-pub mod RunSums

@@ -17,7 +17,7 @@ use Rattle.vch_machine.specs.Next.{nth_call}
 use Rattle.vch_machine.proofs.Others.{Leaves, still_claim}
 use Rattle.vch_legal.specs.Facts.{bit}
 use Rattle.vch_legal.specs.Tie.{Forms, FormsCreate, FormsSend, FrameForms, IsForming, is_answering, is_open, IsOpen, TaskStands, map_with, place_with, keys_with}
-use Rattle.vch_legal.proofs.SeenSame.{AgreeBut, voucher_same}
+use Rattle.vch_legal.proofs.SeenSame.{AgreeBut, voucher_same, left_false, right_false}
 use Rattle.vch_legal.proofs.SeenTasks.{member_seen, none_at}
 use Rattle.vch_legal.proofs.Values.{of_with}
 use Rattle.vch_legal.proofs.Follows.{Follows, MemberKept, follows_kept, follows_calls, follows_phases}
@@ -26,12 +26,6 @@ use Rattle.vch_legal.proofs.Follows.{Follows, MemberKept, follows_kept, follows_
 pub data Lives (m n : Machine) : Type 0 where
   Same : n.live ≡ m.live → Lives m n
   But : (q : Place) → AgreeBut q n.live m.live → is_held m q ≡ false → is_expected m q ≡ false → Lives m n
-
-left_false : (a b : Bool) → (a || b) ≡ false → a ≡ false
-left_false a b e = grind arith
-
-right_false : (a b : Bool) → (a || b) ≡ false → b ≡ false
-right_false a b e = grind arith
 
 unplaced : (v : Handles) (p q : Place) → has_place v q ≡ false → same_place p q ≡ false
     → has_place (with_key p.key (Some p.handle) v) q ≡ false

@@ -25,6 +25,7 @@ use Rattle.vch_legal.proofs.Records.{seen_names, asks_same}
 use Rattle.vch_legal.proofs.CreateMakes.{CreateGoes, asked_forms, reaches_whole}
 use Rattle.vch_legal.proofs.Standing.{Step}
 use Rattle.vch_legal.proofs.Refusals.{Calling, create_refused, create_wants, send_wants, recv_wants}
+use Rattle.vch_legal.proofs.Nexts.{some_kind}
 
 -- by the answer: a code refuses the call as the store does; a value or none goes into what is formed
 abbrev pub GoesOn : Scenario → ℕ → Machine → Frame → Handles → Call → Key → Result (Option Value) ℤ → Type 0
@@ -44,9 +45,6 @@ create_answer sc t m f v bytes k (Ok y) c forms h = h
 asking : (b : Bool) → (if b then kinds.Make else kinds.Work) ≡ kinds.Make → b ≡ true
 asking true e = refl
 asking false e = cc
-
-some_kind : (a b : Kind) → Some a ≡ Some b → a ≡ b
-some_kind a b e = cc
 
 -- the record of a create where a Make is next
 record Asking (sc : Scenario) (t : ℕ) (m : Machine) (first : First) : Type 0 where

@@ -16,6 +16,9 @@ use Rattle.vch_legal.specs.Tie.{Forms, FrameForms, IsForming, moved_keys, moved_
 use Rattle.vch_legal.proofs.OwnSteps.{Before}
 use Rattle.vch_legal.proofs.LeaveSteps.{forming_of}
 
+pub some_kind : (a b : Kind) → Some a ≡ Some b → a ≡ b
+some_kind a b e = cc
+
 -- the events of the call itself
 abbrev pub is_call_kind : Kind → Bool
 is_call_kind kinds.Work = true

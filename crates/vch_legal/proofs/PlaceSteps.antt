@@ -38,6 +38,7 @@ use Rattle.vch_legal.proofs.Creates.{Names, ended_forms}
 use Rattle.vch_legal.proofs.Standing.{Step}
 use Rattle.vch_legal.proofs.OwnSteps.{Answered, answered_step, closed_answered}
 use Rattle.vch_legal.proofs.Refusals.{Calling, calling_answers, create_seen, create_wants}
+use Rattle.vch_legal.proofs.Nexts.{some_kind}
 
 -- the call is answered with another task state, whose frame is at its end
 pub placed_step : (sc : Scenario) (t : ℕ) (m mid : Machine) (f : Frame) (lets : List Place) (call : Call)
@@ -103,9 +104,6 @@ ending m t (ContentCut wanted left) e = cc
 no_keys : (names : Names) (ks : List Key) → KeysFit names ks End → ks ≡ []
 no_keys names [] fit = refl
 no_keys names (k ∷ ks) fit = absurd fit
-
-some_kind : (a b : Kind) → Some a ≡ Some b → a ≡ b
-some_kind a b e = cc
 
 abbrev pub IsStep : Scenario → ℕ → Machine → Option Machine → Type 0
 IsStep sc t m None = Unit {0}

@@ -28,7 +28,7 @@ use Rattle.vch_legal.specs.Tie.{Forms, FrameForms, Stands}
 use Rattle.vch_legal.proofs.EventSpots.{cases_bool}
 use Rattle.vch_legal.proofs.OwnSteps.{Before}
 use Rattle.vch_legal.proofs.LeaveSteps.{forming_of}
-use Rattle.vch_legal.proofs.Nexts.{is_call_kind, forms_at}
+use Rattle.vch_legal.proofs.Nexts.{is_call_kind, forms_at, some_kind}
 
 -- a call is under way while a voucher is formed, and it is a create, a send or a recv
 abbrev CallThere : Scenario → ℕ → Machine → Type 0
@@ -55,9 +55,6 @@ formed_some g v call w c e h i = subst (λ (x : Option Handles). is_some (on_for
 if_some : (b : Bool) (x y : Option Machine) → is_some x ≡ true → is_some y ≡ true → is_some (if b then x else y) ≡ true
 if_some true x y h k = h
 if_some false x y h k = k
-
-some_kind : (a b : Kind) → Some a ≡ Some b → a ≡ b
-some_kind a b e = cc
 
 -- a Make asks for something
 record_asks : (live : List Living) (names : List Named) (t : ℕ) (ks : List Key) (v : Handles) (first : First)

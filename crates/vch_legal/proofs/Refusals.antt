@@ -78,7 +78,7 @@ create_seen m t bytes x some few e =
     ap (λ names. create names t bytes) (names_seen m t) ∙
     (create_is (seen_names m.live (tasked m t).names) t bytes some few ∙ ap made_of e)
 
-if_same : {A : Type 0} (b : Bool) (x y : A) → y ≡ x → (if b then x else y) ≡ x
+pub if_same : {A : Type 0} (b : Bool) (x y : A) → y ≡ x → (if b then x else y) ≡ x
 if_same true x y e = refl
 if_same false x y e = e
 

@@ -16,7 +16,7 @@ use Rattle.vch_machine.specs.Frames.{noted}
 use Rattle.vch_machine.specs.Schedules.{Move, happens, run, run_from_start, has_ended}
 use Rattle.vch_legal.specs.Facts.{Fits, bit}
 use Rattle.vch_legal.specs.Tie.{is_answering, TaskStands, any_frame, Stands}
-use Rattle.vch_legal.proofs.Keeps.{start_keeps, phase_keeps}
+use Rattle.vch_legal.proofs.Keeps.{start_keeps, phase_keeps, idle_task}
 use Rattle.vch_legal.proofs.PhaseLines.{all_lines, no_lines, more_lines}
 use Rattle.vch_legal.proofs.Follows.{entry_legal}
 use Rattle.vch_legal.proofs.OwnSteps.{Before}
@@ -24,11 +24,6 @@ use Rattle.vch_legal.proofs.EventSteps.{event_stands}
 use Rattle.vch_legal.proofs.AtRest.{Rests, task_rests, rest_answered, none_ready, task_of, none_frame, each_task, rest_all_held}
 
 -- the start
-
-idle_task : (flags : List Flags) (i : ℕ) → get_or (map (λ _. idle) flags) i idle ≡ idle
-idle_task [] i = refl
-idle_task (x ∷ flags) zero = refl
-idle_task (x ∷ flags) (suc i) = idle_task flags i
 
 idle_frames : (flags : List Flags) → any_frame (map (λ _. idle) flags) ≡ false
 idle_frames [] = refl

@@ -112,7 +112,7 @@ phase_some sc m e over = rw (e, more (nat_lt (phases_in m.past) (length sc.phase
 -- in turn
 
 -- a move in turn can happen
-turn_some : (sc : Scenario) (wants : ℕ → Bool) (n : ℕ) (m : Machine) → IsLimited sc → Stands sc m → has_ended sc m
+pub turn_some : (sc : Scenario) (wants : ℕ → Bool) (n : ℕ) (m : Machine) → IsLimited sc → Stands sc m → has_ended sc m
     ≡ false
     → is_some (happens sc m (move_of wants n (turn_task sc m (lowest_open m (numbers (length sc.flags)))))) ≡ true
 turn_some sc wants n m limited s over = by_open (lowest_open m (numbers (length sc.flags))) refl
@@ -163,11 +163,11 @@ turn_runs sc wants (suc n) m limited s =
 -- by seed
 
 -- a task that is ready
-record IsReady (sc : Scenario) (m : Machine) (t : ℕ) : Type 0 where
+pub record IsReady (sc : Scenario) (m : Machine) (t : ℕ) : Type 0 where
   task : is_task sc t ≡ true
   next : is_some (next_kind sc m t) ≡ true
 
-all_ready : (sc : Scenario) (m : Machine) (ts : List ℕ) → AllByRecursion (λ t. is_task sc t ≡ true) ts
+pub all_ready : (sc : Scenario) (m : Machine) (ts : List ℕ) → AllByRecursion (λ t. is_task sc t ≡ true) ts
     → AllByRecursion (IsReady sc m) (ready sc m ts)
 all_ready sc m [] h = tt
 all_ready sc m (t ∷ ts) h =
@@ -180,7 +180,7 @@ all_at P [] i h l = absurd (omega arith)
 all_at P (x ∷ xs) zero h l = h.0
 all_at P (x ∷ xs) (suc i) h l = all_at P xs i h.1 (omega arith)
 
-seed_some : (sc : Scenario) (wants : ℕ → Bool) (n s : ℕ) (m : Machine) → Stands sc m → has_ended sc m ≡ false
+pub seed_some : (sc : Scenario) (wants : ℕ → Bool) (n s : ℕ) (m : Machine) → Stands sc m → has_ended sc m ≡ false
     → (ts : List ℕ) → ready sc m (numbers (length sc.flags)) ≡ ts → AllByRecursion (IsReady sc m) ts
     → is_some (happens sc m (move_of wants n (picked ts s))) ≡ true
 seed_some sc wants n s m stands over [] e h = phase_some sc m (ap is_empty e) over

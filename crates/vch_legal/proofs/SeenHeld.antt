@@ -75,7 +75,7 @@ values_eq (values.Account a d) (values.Task b) e = cc
 eq_refl : (n : ℕ) → (n == n) ≡ true
 eq_refl n = grind (arith, common_steps)
 
-not_true : (b : Bool) → (b ≡ true → ⊥) → b ≡ false
+pub not_true : (b : Bool) → (b ≡ true → ⊥) → b ≡ false
 not_true true f = absurd (f refl)
 not_true false f = refl
 

@@ -25,7 +25,7 @@ Numbered live = (q : Place) (a : Living) → living_at live q ≡ Some a → nat
 abbrev machine_held : Machine → Place → Bool
 machine_held m q = states.is_held m q
 
-key_number : (k : Key) → key_of (number_of k) ≡ Some k
+pub key_number : (k : Key) → key_of (number_of k) ≡ Some k
 key_number keys.Importance = refl
 key_number keys.Bank = refl
 key_number keys.User = refl

@@ -14,10 +14,10 @@ use Rattle.vch_legal.proofs.PutSpots.{known_to}
 abbrev pub AgreeBut : Place → List Living → List Living → Type 0
 AgreeBut q a b = (p : Place) → same_place q p ≡ false → living_at a p ≡ living_at b p
 
-left_false : (a b : Bool) → (a || b) ≡ false → a ≡ false
+pub left_false : (a b : Bool) → (a || b) ≡ false → a ≡ false
 left_false a b e = grind arith
 
-right_false : (a b : Bool) → (a || b) ≡ false → b ≡ false
+pub right_false : (a b : Bool) → (a || b) ≡ false → b ≡ false
 right_false a b e = grind arith
 
 -- a handle at a key, where it is not the one

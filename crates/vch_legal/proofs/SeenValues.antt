@@ -17,7 +17,7 @@ use Rattle.vch_legal.specs.Facts.{Fits, EachOnce, bit, times}
 use Rattle.vch_legal.proofs.Places.{same_place_eq, same_place_refl, same_number}
 use Rattle.vch_legal.proofs.EventSpots.{cases_bool}
 use Rattle.vch_legal.proofs.Forming.{LiveAt}
-use Rattle.vch_legal.proofs.SeenHeld.{values_refl}
+use Rattle.vch_legal.proofs.SeenHeld.{values_refl, not_true}
 use Rattle.vch_legal.proofs.SeenNames.{LiveAll}
 use Rattle.vch_legal.proofs.SeenReleased.{Numbered}
 
@@ -104,10 +104,6 @@ any_made (l ∷ live) n h e =
 abbrev Once : List Living → Type 0
 Once live = (p q : Place) (a b : Living) → living_at live p ≡ Some a → living_at live q ≡ Some b → a.made ≡ b.made → p
     ≡ q
-
-not_true : (b : Bool) → (b ≡ true → ⊥) → b ≡ false
-not_true true f = absurd (f refl)
-not_true false f = refl
 
 other_numbers : (l : Living) (live : List Living) → AtMostOnce (l ∷ live) → Once (l ∷ live)
     → list_any (λ (k : Living). k.made == l.made) live ≡ false

@@ -109,7 +109,7 @@ begun_by m t = (tasked m t).begun
 abbrev so_far : Scenario → Machine → ℕ → ℕ
 so_far sc m t = lines_until sc (phases_in m.past) t
 
-own_number : (a : ℕ) → (a == a) ≡ true
+pub own_number : (a : ℕ) → (a == a) ≡ true
 own_number a = grind arith
 
 at_most : (a b : ℕ) → nat_lt a b ≡ false → b ≤ a

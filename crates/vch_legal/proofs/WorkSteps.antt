@@ -21,7 +21,7 @@ use Rattle.vch_legal.proofs.Records.{seen_names, asks_same, valued_result, recor
 use Rattle.vch_legal.proofs.Creates.{Names, worked_forms, refused_forms, Cut, cut_forms}
 use Rattle.vch_legal.proofs.Standing.{Step}
 use Rattle.vch_legal.proofs.LeaveSteps.{open_step}
-use Rattle.vch_legal.proofs.Nexts.{forms_at, forms_in}
+use Rattle.vch_legal.proofs.Nexts.{forms_at, forms_in, some_kind}
 use Rattle.vch_legal.proofs.Refusals.{Calling, create_refused}
 
 -- where a record asks no manager, no keys are left
@@ -40,9 +40,6 @@ cut_keys names (k ∷ ks) End fit cut = absurd cut
 not_asking : (b : Bool) → (if b then kinds.Make else kinds.Work) ≡ kinds.Work → b ≡ false
 not_asking true e = cc
 not_asking false e = refl
-
-some_kind : (a b : Kind) → Some a ≡ Some b → a ≡ b
-some_kind a b e = cc
 
 work_result : (sc : Scenario) (t : ℕ) (m : Machine) (f : Frame) (v : Handles) (bytes : List ℕ) (r : Recipe)
     (rest : List ℕ) (x : Result Worked ℤ) → Calling sc t m f (calls.Create bytes) → f.forming ≡ Some v → f.receipt
@@ -113,7 +110,7 @@ work_at sc t m f v bytes (ContentCut wanted left) fits c forming receipt forms e
     (cut_keys (seen_names m.live (tasked m t).names) f.keys (ContentCut wanted left)
     (subst (KeysFit (seen_names m.live (tasked m t).names) f.keys) e forms.fit) tt) forms) e tt)
 
-no_work : (b : Bool) → (if b then Some kinds.Place else Some kinds.Make) ≡ Some kinds.Work → ⊥
+pub no_work : (b : Bool) → (if b then Some kinds.Place else Some kinds.Make) ≡ Some kinds.Work → ⊥
 no_work true e = cc
 no_work false e = cc
 

@@ -1,3 +1,4 @@
-pub mod Facts
-pub mod Tie
 pub mod Conserved
+pub mod Facts
+pub mod Left
+pub mod Tie

@@ -7,17 +7,18 @@
 //! while it is asked to be released. The facts of one handle (`spot_fits`) say what such a moment can look like.
 #![tactic(auto)]
 
-ghost use Rattle.std.specs.Prelude.{◌≡◌, ◌≤◌, ◌+◌, ℕ, Bool, true, List, length, reverse, Option, Some, is_some};
+ghost use Rattle.std.specs.Prelude.{◌≡◌, ◌≤◌, ◌<◌, ◌+◌, ℕ, Bool, true, List, length, reverse, Option, Some, is_some};
 ghost use Rattle.vch_model.specs.declared.entry.Entry.{Entry};
 ghost use Rattle.vch_model.specs.Totals.{held, out, ledger};
 ghost use Rattle.vch_legal.specs.Conserved.{each_task, accepted, dues};
 ghost use Rattle.vch_model.specs.declared.lists.Scenario.{Scenario};
 ghost use Rattle.vch_machine.specs.State.{Machine, start};
 ghost use Rattle.vch_machine.specs.Events.{event, phase_event};
-ghost use Rattle.vch_machine.specs.Schedules.{Move, run_from_start, has_ended, in_turn, by_seed};
+ghost use Rattle.vch_machine.specs.Schedules.{Move, happens, run_from_start, has_ended, in_turn, by_seed};
 ghost use Rattle.vch_model.specs.Legal.{Legal, LegalPast, Whole};
 ghost use Rattle.vch_model.specs.Scenarios.{IsLimited};
 ghost use Rattle.vch_legal.specs.Facts.{Fits};
+ghost use Rattle.vch_legal.specs.Left.{left};
 
 /// A law: the state at the start meets the facts.
 pub fn start_fits()
@@ -101,4 +102,29 @@ pub fn held_is_out_in_every_run()
 pub fn charges_are_kept_in_every_run()
     ensures { (sc : Scenario) (moves : List Move) (n : Machine) → run_from_start sc moves ≡ Some n
         → accepted sc n.past ≡ each_task (ledger sc n.past) (length sc.flags) + dues sc n.past }
+{}
+
+/// A law: every move of a run lowers what is left to do, so a run can't go on for ever: a claim begins anew only after a
+/// reference was taken, and the references are bounded by the records and the messages.
+pub fn every_move_lowers_what_is_left()
+    ensures { (sc : Scenario) (moves : List Move) (move : Move) (m n : Machine)
+        → run_from_start sc moves ≡ Some m → happens sc m move ≡ Some n → left sc n + 1 ≤ left sc m }
+{}
+
+/// A law: a run has no more moves than what was left at the start.
+pub fn every_run_is_bounded()
+    ensures { (sc : Scenario) (moves : List Move) (n : Machine)
+        → run_from_start sc moves ≡ Some n → length moves + left sc n ≤ left sc (start sc) }
+{}
+
+/// A law: with a bound above what is left at the start, the schedule in turn ends with the last phase.
+pub fn in_turn_ends()
+    ensures { (sc : Scenario) (wants : ℕ → Bool) (bound : ℕ) (n : Machine) → IsLimited sc → left sc (start sc) < bound
+        → run_from_start sc (in_turn bound wants sc (Some (start sc))) ≡ Some n → has_ended sc n ≡ true }
+{}
+
+/// A law: with such a bound, the schedule by seed ends with the last phase too.
+pub fn by_seed_ends()
+    ensures { (sc : Scenario) (wants : ℕ → Bool) (bound seed : ℕ) (n : Machine) → left sc (start sc) < bound
+        → run_from_start sc (by_seed bound seed wants sc (Some (start sc))) ≡ Some n → has_ended sc n ≡ true }
 {}

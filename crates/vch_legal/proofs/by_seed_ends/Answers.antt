@@ -1,0 +1,5 @@
+use Rattle.vch_legal.proofs.ScheduleEnds.{seed_ends_from_start}
+use Rattle.vch_legal.proofs.by_seed_ends.Goals as goal
+
+pub returns : goal.returns
+returns c = seed_ends_from_start

@@ -1,0 +1,5 @@
+use Rattle.vch_legal.proofs.Bounds.{run_bounded}
+use Rattle.vch_legal.proofs.every_run_is_bounded.Goals as goal
+
+pub returns : goal.returns
+returns c = run_bounded
