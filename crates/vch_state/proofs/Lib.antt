@@ -1,0 +1,12 @@
+pub mod Boths
+pub mod Stable
+pub mod Claims
+pub mod Expected
+pub mod Held
+pub mod Replaced
+pub mod Closing
+pub mod Spending
+pub mod Keys
+pub mod Taking
+pub mod FrameParts
+pub mod LetsGo
