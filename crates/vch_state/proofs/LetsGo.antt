@@ -75,20 +75,20 @@ module _ (sc : Scenario) (k : Key) (c : Plain) (m : Machine) (t : ℕ) (positive
     (task : (tasked m t).frame ≡ Some (leaving_machine w place keys (record { key = k; handle = h } ∷ rest) None))
     (lkey : l.key ≡ k) (index : IsIndexOf c k l.index h)
     (s : StandsFor sc (k ∷ []) c m) where
-  abbrev p : Place
+  abbrev pub p : Place
   p = record { key = k; handle = h }
 
-  abbrev F1 : Claiming → Frame
+  abbrev pub F1 : Claiming → Frame
   F1 x = leaving_frame v at key ls x
 
-  abbrev G1 : Option machine.Claim → machine.Frame
+  abbrev pub G1 : Option machine.Claim → machine.Frame
   G1 y = leaving_machine w place keys rest y
 
   -- between the two halves: the handle is not in the frame any more, and nothing is claimed
-  abbrev mid_parts : Plain
+  abbrev pub mid_parts : Plain
   mid_parts = with_frame_at c t (Some (F1 Claiming.Nothing))
 
-  abbrev mid : Machine
+  abbrev pub mid : Machine
   mid = frames.with_frame m t (Some (G1 None))
 
   inside_tasks : t - 1 < length m.tasks
@@ -120,19 +120,19 @@ module _ (sc : Scenario) (k : Key) (c : Plain) (m : Machine) (t : ℕ) (positive
       (others mid_parts same refl) (own_task mid_parts same refl (Some (F1 Claiming.Nothing)) (Some (G1 None)) (left_frame mid_parts same refl Claiming.Nothing None tt))
 
   -- the pictures
-  abbrev P : Picture
+  abbrev pub P : Picture
   P = picture_by k c m t (Some (leaving_frame v at key (l ∷ ls) Claiming.Nothing)) (Some (leaving_machine w place keys (p ∷ rest) None))
 
-  is_now : picture_of k c m ≡ P
+  pub is_now : picture_of k c m ≡ P
   is_now = picture_now k c m t s.shape.long inside ∙ rw (own, task) refl
 
-  abbrev ahead : List ℕ
+  abbrev pub ahead : List ℕ
   ahead = held_before k c m t ++ forming_holds k w
 
-  abbrev after : List ℕ
+  abbrev pub after : List ℕ
   after = flat_map (let_holds k) rest ++ held_behind k c m t
 
-  split : P.holders ≡ ahead ++ h ∷ after
+  pub split : P.holders ≡ ahead ++ h ∷ after
   split = rw (same_key_refl k) (simp append_assoc)
 
   less : (picture_by k c m t (Some (F1 Claiming.Nothing)) (Some (G1 None))).holders ≡ ahead ++ after
@@ -153,15 +153,15 @@ module _ (sc : Scenario) (k : Key) (c : Plain) (m : Machine) (t : ℕ) (positive
   raced : is_expected mid p ≡ is_met (flags_at h P.receipts)
   raced = expected_met k h sc mid_parts mid shape_mid ∙ ap (λ (q : Picture). is_met (flags_at h q.receipts)) is_mid
 
-  abbrev machine_claim : machine.Claim
+  abbrev pub machine_claim : machine.Claim
   machine_claim = record { place = p; raced = is_met (flags_at h P.receipts); back = false; answer = None }
 
   -- the machine's claim, where the code takes one
-  abbrev told_claim : Option flight.Claim → Option machine.Claim
+  abbrev pub told_claim : Option flight.Claim → Option machine.Claim
   told_claim None = None
   told_claim (Some x) = Some machine_claim
 
-  claim_is : (o : Option flight.Claim) → is_some o ≡ takes_claim h (ahead ++ after) P (of_key k c.keyed).kept → claim_if mid p ≡ told_claim o
+  pub claim_is : (o : Option flight.Claim) → is_some o ≡ takes_claim h (ahead ++ after) P (of_key k c.keyed).kept → claim_if mid p ≡ told_claim o
   claim_is o row =
       taken (is_fixed mid p) (is_held mid p) (not (is_empty (claims_on mid p))) (is_nil (claims_at h P.claims)) (default_of (live_at (of_key k c.keyed).kept.slots h)) (count h (ahead ++ after)) (leaving.new_claim mid p) fixed held (ap not unclaimed)
       ∙ rw (← row, raced) (by o)
@@ -175,16 +175,16 @@ module _ (sc : Scenario) (k : Key) (c : Plain) (m : Machine) (t : ℕ) (positive
       (same_index : IsOf l.index o)
       (row : is_some o ≡ takes_claim h (ahead ++ after) P (of_key k c.keyed).kept)
       (counts : picture.Stands (let_go_picture h o (ahead ++ after) P) e2 (of_key k c.keyed).kept) where
-    abbrev F2 : Frame
+    abbrev pub F2 : Frame
     F2 = F1 (claiming k o)
 
-    abbrev G2 : machine.Frame
+    abbrev pub G2 : machine.Frame
     G2 = G1 (told_claim o)
 
-    abbrev then_parts : Plain
+    abbrev pub then_parts : Plain
     then_parts = record (with_values (with_frame_at c t (closed F2)) k e2 (of_key k c.keyed).kept) { tally = more_claims o c.tally }
 
-    abbrev then_machine : Machine
+    abbrev pub then_machine : Machine
     then_machine = frames.tallied (leaving.more_claims (told_claim o)) (frames.with_frame m t (frames.closed G2))
 
     all_handles : (i : ℕ) (q : Key) → handle_at (slots_of then_parts q) i ≡ handle_at (slots_of c q) i
@@ -204,7 +204,7 @@ module _ (sc : Scenario) (k : Key) (c : Plain) (m : Machine) (t : ℕ) (positive
     shape_after = shape_then sc c m t positive inside s.shape then_parts then_machine (closed F2) (frames.closed G2) refl refl refl
         (others then_parts stable refl) (own_task then_parts stable refl (closed F2) (frames.closed G2) (closed_frames then_parts (current sc m t) F2 G2 new_frame))
 
-    abbrev Q : Picture
+    abbrev pub Q : Picture
     Q = picture_by k c m t (Some F2) (Some G2)
 
     picture_after : picture_of k then_parts then_machine ≡ Q
@@ -227,7 +227,7 @@ module _ (sc : Scenario) (k : Key) (c : Plain) (m : Machine) (t : ℕ) (positive
     alike : Alike (let_go_picture h o (ahead ++ after) P) Q
     alike = record { holders = λ i. ap (count i) less; flags = λ i. refl; claims = claims_alike o row; flying = refl }
 
-    abbrev now : KeyParts
+    abbrev pub now : KeyParts
     now = record (of_key k c.keyed) { entries = e2 }
 
     is_new : of_key k then_parts.keyed ≡ now

@@ -10,3 +10,5 @@ pub mod Keys
 pub mod Taking
 pub mod FrameParts
 pub mod LetsGo
+pub mod Glue
+pub mod LetsGoEvent

@@ -4,3 +4,4 @@ pub mod Pictures
 pub mod Bounds
 pub mod Stands
 pub mod Moves
+pub mod Reached

@@ -3,10 +3,15 @@
 
 mod frame;
 mod frames;
+mod let_go;
 mod made;
+mod parts;
+mod state;
 mod tally;
 
 pub use frame::{Claiming, Frame, KeyIndex, KeyReceipt, Lets};
 pub use frames::{Frames, Working};
 pub use made::MadeNumbers;
+pub use parts::Parts;
+pub use state::Core;
 pub use tally::Tally;
