@@ -109,3 +109,17 @@ lets_go_next f e = by_receipt f.receipt refl e
     by_receipt : (r : Option KeyReceipt) → f.receipt ≡ r → receipt_kind f r ≡ Some kinds.LetGo → (f.receipt ≡ None) × (f.claim ≡ Claiming.Nothing)
     by_receipt None q e = by_claim f.claim refl q e
     by_receipt (Some r) q e = absurd (cc)
+
+pub asks_next : (f : Frame) → value_kind (Some f) ≡ Some kinds.Ask → f.receipt ≡ None
+asks_next f e = by_receipt f.receipt refl e
+  where
+    by_receipt : (r : Option KeyReceipt) → f.receipt ≡ r → receipt_kind f r ≡ Some kinds.Ask → f.receipt ≡ None
+    by_receipt None q e = q
+    by_receipt (Some r) q e = absurd (cc)
+
+pub rechecks_next : (f : Frame) → value_kind (Some f) ≡ Some kinds.Recheck → f.receipt ≡ None
+rechecks_next f e = by_receipt f.receipt refl e
+  where
+    by_receipt : (r : Option KeyReceipt) → f.receipt ≡ r → receipt_kind f r ≡ Some kinds.Recheck → f.receipt ≡ None
+    by_receipt None q e = q
+    by_receipt (Some r) q e = absurd (cc)

@@ -12,3 +12,6 @@ pub mod FrameParts
 pub mod LetsGo
 pub mod Glue
 pub mod LetsGoEvent
+pub mod OneClaim
+pub mod Asks
+pub mod AsksEvent

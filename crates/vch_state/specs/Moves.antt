@@ -4,6 +4,8 @@ use Rattle.vch_base.specs.declared.key.Key.{Key}
 use Rattle.vch_base.specs.Managers.{Kept}
 use Rattle.vch_entry.specs.Entries.{Entries}
 use Rattle.vch_value.specs.declared.flight.Claim.{Claim}
+use Rattle.vch_model.specs.declared.entry.Entry.{Entry}
+use Rattle.vch_model.specs.declared.entry.Entry.TheVariants.{Released}
 use Rattle.vch_machine.specs.State.{of_key, with_key}
 use Rattle.vch_state.specs.declared.frame.Frame.{Frame}
 use Rattle.vch_state.specs.declared.frame.Claiming.{Claiming}
@@ -27,3 +29,15 @@ claiming k (Some x) = Claiming.Claimed k x
 abbrev pub more_claims : Option Claim → Tally → Tally
 more_claims None n = n
 more_claims (Some x) n = record n { claims = n.claims + 1 }
+
+-- one question more was asked
+abbrev pub one_asked : Tally → Tally
+one_asked n = record n { asks = n.asks + 1 }
+
+-- a Released entry, where the manager agreed
+abbrev pub noted_release : Bool → ℕ → List Entry → List Entry
+noted_release agreed made past = if agreed then past ++ Released made ∷ [] else past
+
+-- and its room
+abbrev pub less_room : Bool → ℕ → ℕ
+less_room agreed spare = if agreed then spare - 1 else spare

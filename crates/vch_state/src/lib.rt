@@ -1,6 +1,7 @@
 //! The state of a core.
 #![tactic(auto)]
 
+mod ask;
 mod frame;
 mod frames;
 mod let_go;

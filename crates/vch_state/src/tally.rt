@@ -1,5 +1,5 @@
 ghost use Rattle.std.specs.Prelude.{◌≡◌, ◌<◌, ◌^◌};
-ghost use Rattle.vch_state.specs.Moves.{more_claims};
+ghost use Rattle.vch_state.specs.Moves.{more_claims, one_asked};
 
 use vch_value::Claim;
 
@@ -19,4 +19,12 @@ pub fn count_claim(tally: &mut Tally, claim: &Option<Claim>)
     if claim.is_some() {
         tally.claims += 1;
     }
+}
+
+/// Counts a question.
+pub fn count_question(tally: &mut Tally)
+    requires { tally.old.asks < 2 ^ 63 }
+    ensures { tally.new ≡ one_asked tally.old }
+{
+    tally.asks += 1;
 }
