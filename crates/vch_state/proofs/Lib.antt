@@ -15,3 +15,5 @@ pub mod LetsGoEvent
 pub mod OneClaim
 pub mod Asks
 pub mod AsksEvent
+pub mod Unused
+pub mod Rechecks

@@ -7,6 +7,7 @@ mod frames;
 mod let_go;
 mod made;
 mod parts;
+mod recheck;
 mod state;
 mod tally;
 
