@@ -17,3 +17,4 @@ pub mod Asks
 pub mod AsksEvent
 pub mod Unused
 pub mod Rechecks
+pub mod RechecksEvent

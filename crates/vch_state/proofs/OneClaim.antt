@@ -72,7 +72,7 @@ module _ (sc : Scenario) (k : Key) (c : Plain) (m : Machine) (t : ℕ) (positive
   claims_are : claims_at h P.claims ≡ claims_at h (claims_before k c m t) ++ own_claim ∷ claims_at h (claims_behind k c m t)
   claims_are = ap (claims_at h) split ∙ claims_here h (claims_before k c m t) (claims_behind k c m t) own_claim refl
 
-  alone : claims_at h P.claims ≡ own_claim ∷ []
+  pub alone : claims_at h P.claims ≡ own_claim ∷ []
   alone =
       let o = only (entry_of (of_key k c.keyed).entries.slots h) (claims_at h (claims_before k c m t)) (claims_at h (claims_behind k c m t)) own_claim
         (subst (IsClaimed (entry_of (of_key k c.keyed).entries.slots h)) claims_are here.claimed) in

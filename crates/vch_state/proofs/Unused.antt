@@ -17,7 +17,7 @@ use Rattle.vch_state.specs.Plain.{Plain, Part, SlotName, SlotMessage}
 use Rattle.vch_state.specs.Shape.{Indices, index_of, Pairwise, Optional, IsIndexOf, AreIndices, IsMap, HasMap, IsSlotOf, IsName, IsMessage, IsLet, IsClaim, IsFrame, IsTask}
 use Rattle.vch_state.specs.Pictures.{same_key}
 
-either_false : (a b : Bool) → (a || b) ≡ false → (a ≡ false) × (b ≡ false)
+pub either_false : (a b : Bool) → (a || b) ≡ false → (a ≡ false) × (b ≡ false)
 either_false false b e = (refl, e)
 either_false true b e = absurd (cc)
 
