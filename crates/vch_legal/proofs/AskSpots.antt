@@ -17,11 +17,13 @@ without_here (l ∷ live) q =
     (λ here. rw here (without_here live q))
     (λ other. rw (other, other) (without_here live q))
 
-pub without_other : (live : List Living) (q p : Place) → same_place q p ≡ false → living_at (without_place live q) p ≡ living_at live p
+pub without_other : (live : List Living) (q p : Place) → same_place q p ≡ false
+    → living_at (without_place live q) p ≡ living_at live p
 without_other [] q p e = refl
 without_other (l ∷ live) q p e =
     cases_bool (same_place l.place q) (living_at (without_place (l ∷ live) q) p ≡ living_at (l ∷ live) p)
-    (λ here. let k : same_place l.place p ≡ false = rw (same_place_eq l.place q here) e in rw (here, k) (without_other live q p e))
+    (λ here. let k : same_place l.place p ≡ false = rw (same_place_eq l.place q here) e
+    in rw (here, k) (without_other live q p e))
     (λ other. rw (other, without_other live q p e))
 
 -- the claim is answered
@@ -35,44 +37,65 @@ answered_here c b = rw (same_place_refl c.place)
 pub refused_here : (m : Machine) (t : ℕ) (f : Frame) (c : Claim) → (tasked m t).frame ≡ Some f
     → spot (with_frame m t (with_answer f c false)) c.place ≡ claimed_spot m t f c.place (answered c false ∷ [])
 refused_here m t f c e =
-    spot_set m t (with_answer f c false) c.place (task_in_range m t f e) ∙ ap (λ cs. claimed_spot m t f c.place cs) (answered_here c false)
+    spot_set m t (with_answer f c false) c.place (task_in_range m t f e)
+    ∙ ap (λ cs. claimed_spot m t f c.place cs) (answered_here c false)
 
-pub answered_other : (m : Machine) (t : ℕ) (f : Frame) (c : Claim) (b : Bool) (p : Place) → (tasked m t).frame ≡ Some f → f.claim ≡ Some c → same_place c.place p ≡ false
+pub answered_other : (m : Machine) (t : ℕ) (f : Frame) (c : Claim) (b : Bool) (p : Place)
+    → (tasked m t).frame ≡ Some f → f.claim ≡ Some c → same_place c.place p ≡ false
     → spot (with_frame m t (with_answer f c b)) p ≡ spot m p
 answered_other m t f c b p e claim other =
-    spot_same m t f (with_answer f c b) p e refl refl (one_claim_other (answered c b) p other ∙ sym (ap (λ x. claim_at x p) claim ∙ one_claim_other c p other))
+    spot_same m t f (with_answer f c b) p e refl refl (one_claim_other (answered c b) p other
+    ∙ sym (ap (λ x. claim_at x p) claim ∙ one_claim_other c p other))
 
 refused_fits : (m : Machine) (t : ℕ) (f : Frame) (c : Claim) → (tasked m t).frame ≡ Some f → f.claim ≡ Some c
     → is_some c.answer ≡ false → c.raced ≡ true → AllFit m → AllFit (with_frame m t (with_answer f c false))
 refused_fits m t f c e claim a r h p =
     cases_bool (same_place c.place p) (spot_fits (spot (with_frame m t (with_answer f c false)) p) ≡ true)
-    (λ here. subst (λ (s : Place). spot_fits (spot (with_frame m t (with_answer f c false)) s) ≡ true) (same_place_eq c.place p here)
-    (fits_of (spot (with_frame m t (with_answer f c false)) c.place) (claimed_spot m t f c.place (answered c false ∷ [])) (refused_here m t f c e)
-    (refused_at c (is_some (living_at m.live c.place)) (is_fixed m c.place) (frame_holds (Some f) c.place || kept_named m t c.place) (is_place f.receipt c.place || others_expect m t c.place) (claims_before m t c.place) (claims_behind m t c.place) a r
-    (fits_of (claimed_spot m t f c.place (c ∷ [])) (spot m c.place) (sym (claimed_before m t f c e claim)) (h c.place)))))
-    (λ other. fits_of (spot (with_frame m t (with_answer f c false)) p) (spot m p) (answered_other m t f c false p e claim other) (h p))
+    (λ here. subst (λ (s : Place). spot_fits (spot (with_frame m t (with_answer f c false)) s) ≡ true)
+    (same_place_eq c.place p here)
+    (fits_of (spot (with_frame m t (with_answer f c false)) c.place)
+    (claimed_spot m t f c.place (answered c false ∷ [])) (refused_here m t f c e)
+    (refused_at c (is_some (living_at m.live c.place)) (is_fixed m c.place)
+    (frame_holds (Some f) c.place || kept_named m t c.place)
+    (is_place f.receipt c.place || others_expect m t c.place) (claims_before m t c.place)
+    (claims_behind m t c.place) a r
+    (fits_of (claimed_spot m t f c.place (c ∷ [])) (spot m c.place) (sym (claimed_before m t f c e claim))
+    (h c.place)))))
+    (λ other. fits_of (spot (with_frame m t (with_answer f c false)) p) (spot m p)
+    (answered_other m t f c false p e claim other) (h p))
 
 -- a spot with another live value
 abbrev pub spot_live : Option Living → Spot → Spot
 spot_live l s = record s { live = is_some l; fixed = is_fixed_value l }
 
 -- an agreed Ask, at any other place
-pub agreed_other : (m : Machine) (t : ℕ) (f : Frame) (c : Claim) (p : Place) → (tasked m t).frame ≡ Some f → f.claim ≡ Some c → same_place c.place p ≡ false
+pub agreed_other : (m : Machine) (t : ℕ) (f : Frame) (c : Claim) (p : Place) → (tasked m t).frame ≡ Some f
+    → f.claim ≡ Some c → same_place c.place p ≡ false
     → spot (with_frame (released m c.place) t (with_answer f c true)) p ≡ spot m p
 agreed_other m t f c p e claim other =
-    ap (λ l. spot_live l (spot (with_frame m t (with_answer f c true)) p)) (without_other m.live c.place p other) ∙ answered_other m t f c true p e claim other
+    ap (λ l. spot_live l (spot (with_frame m t (with_answer f c true)) p)) (without_other m.live c.place p other)
+    ∙ answered_other m t f c true p e claim other
 
 agreed_fits : (m : Machine) (t : ℕ) (f : Frame) (c : Claim) → (tasked m t).frame ≡ Some f → f.claim ≡ Some c
-    → is_some c.answer ≡ false → c.raced ≡ false → AllFit m → AllFit (with_frame (released m c.place) t (with_answer f c true))
+    → is_some c.answer ≡ false → c.raced ≡ false → AllFit m → AllFit
+    (with_frame (released m c.place) t (with_answer f c true))
 agreed_fits m t f c e claim a r h p =
-    cases_bool (same_place c.place p) (spot_fits (spot (with_frame (released m c.place) t (with_answer f c true)) p) ≡ true)
-    (λ here. subst (λ (s : Place). spot_fits (spot (with_frame (released m c.place) t (with_answer f c true)) s) ≡ true) (same_place_eq c.place p here)
-    (fits_of (spot (with_frame (released m c.place) t (with_answer f c true)) c.place) (spot_live None (claimed_spot m t f c.place (answered c true ∷ [])))
+    cases_bool (same_place c.place p) (spot_fits (spot (with_frame (released m c.place) t (with_answer f c true)) p)
+    ≡ true)
+    (λ here. subst (λ (s : Place). spot_fits (spot (with_frame (released m c.place) t (with_answer f c true)) s)
+    ≡ true) (same_place_eq c.place p here)
+    (fits_of (spot (with_frame (released m c.place) t (with_answer f c true)) c.place)
+    (spot_live None (claimed_spot m t f c.place (answered c true ∷ [])))
     (spot_set (released m c.place) t (with_answer f c true) c.place (task_in_range m t f e)
-    ∙ (ap (λ l. spot_live l (claimed_spot m t f c.place (claim_at (Some (answered c true)) c.place))) (without_here m.live c.place)
+    ∙ (ap (λ l. spot_live l (claimed_spot m t f c.place (claim_at (Some (answered c true)) c.place)))
+    (without_here m.live c.place)
     ∙ ap (λ cs. spot_live None (claimed_spot m t f c.place cs)) (answered_here c true)))
-    (agreed_at c (is_some (living_at m.live c.place)) (is_fixed m c.place) (frame_holds (Some f) c.place || kept_named m t c.place) (is_place f.receipt c.place || others_expect m t c.place) (claims_before m t c.place) (claims_behind m t c.place) a r
-    (fits_of (claimed_spot m t f c.place (c ∷ [])) (spot m c.place) (sym (claimed_before m t f c e claim)) (h c.place)))))
+    (agreed_at c (is_some (living_at m.live c.place)) (is_fixed m c.place)
+    (frame_holds (Some f) c.place || kept_named m t c.place)
+    (is_place f.receipt c.place || others_expect m t c.place) (claims_before m t c.place)
+    (claims_behind m t c.place) a r
+    (fits_of (claimed_spot m t f c.place (c ∷ [])) (spot m c.place) (sym (claimed_before m t f c e claim))
+    (h c.place)))))
     (λ other. fits_of (spot (with_frame (released m c.place) t (with_answer f c true)) p) (spot m p)
     (agreed_other m t f c p e claim other) (h p))
 

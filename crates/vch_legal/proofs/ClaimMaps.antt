@@ -23,7 +23,8 @@ expects_on : (g : Claim → Claim) (f : Option Frame) (p : Place) → frame_expe
 expects_on g None p = refl
 expects_on g (Some f) p = refl
 
-claims_frame_on : (g h : Claim → Claim) (p : Place) → ((c : Claim) → claim_at (Some (g c)) p ≡ map h (claim_at (Some c) p))
+claims_frame_on : (g h : Claim → Claim) (p : Place) → ((c : Claim)
+    → claim_at (Some (g c)) p ≡ map h (claim_at (Some c) p))
     → (f : Option Frame) → frame_claims (on_frame g f) p ≡ map h (frame_claims f p)
 claims_frame_on g h p same None = refl
 claims_frame_on g h p same (Some f) = of_claim f.claim
@@ -33,23 +34,29 @@ claims_frame_on g h p same (Some f) = of_claim f.claim
     of_claim (Some c) = same c
 
 -- a spot after a change of all claims
-pub spot_on : (m : Machine) (g h : Claim → Claim) (p : Place) → ((c : Claim) → claim_at (Some (g c)) p ≡ map h (claim_at (Some c) p))
-    → spot (on_claims g m) p ≡ one (is_some (living_at m.live p)) (is_fixed m p) (is_held m p) (is_expected m p) (map h (claims_on m p))
+pub spot_on : (m : Machine) (g h : Claim → Claim) (p : Place)
+    → ((c : Claim) → claim_at (Some (g c)) p ≡ map h (claim_at (Some c) p))
+    → spot (on_claims g m) p ≡ one (is_some (living_at m.live p)) (is_fixed m p) (is_held m p) (is_expected m p)
+    (map h (claims_on m p))
 spot_on m g h p same =
     one_eq (is_some (living_at m.live p)) (is_fixed m p) _ _ _ _ _ _
     (any_map (task_holds p) (on_task g) (task_holds_on g p) m.tasks)
     (any_map (λ (x : Tasked). frame_expects x.frame p) (on_task g) (λ x. expects_on g x.frame p) m.tasks)
-    (flat_map_map (λ (x : Tasked). frame_claims x.frame p) (on_task g) h (λ x. claims_frame_on g h p same x.frame) m.tasks)
+    (flat_map_map (λ (x : Tasked). frame_claims x.frame p) (on_task g) h
+    (λ x. claims_frame_on g h p same x.frame) m.tasks)
 
 pub map_same : (cs : List Claim) → map (λ c. c) cs ≡ cs
 map_same [] = refl
 map_same (c ∷ cs) = let e : map (λ c. c) cs ≡ cs = map_same cs in rw e
 
 -- a change of claims at another place changes nothing
-pub spot_on_other : (m : Machine) (g : Claim → Claim) (p : Place) → ((c : Claim) → claim_at (Some (g c)) p ≡ claim_at (Some c) p)
+pub spot_on_other : (m : Machine) (g : Claim → Claim) (p : Place)
+    → ((c : Claim) → claim_at (Some (g c)) p ≡ claim_at (Some c) p)
     → spot (on_claims g m) p ≡ spot m p
 spot_on_other m g p same =
-    spot_on m g (λ c. c) p (λ c. same c ∙ sym (map_same (claim_at (Some c) p))) ∙ ap (λ cs. one (is_some (living_at m.live p)) (is_fixed m p) (is_held m p) (is_expected m p) cs) (map_same (claims_on m p))
+    spot_on m g (λ c. c) p (λ c. same c ∙ sym (map_same (claim_at (Some c) p)))
+    ∙ ap (λ cs. one (is_some (living_at m.live p)) (is_fixed m p) (is_held m p) (is_expected m p) cs)
+    (map_same (claims_on m p))
 
 pub race_here : (q : Place) (c : Claim) → claim_at (Some (race_claim q c)) q ≡ map raced_now (claim_at (Some c) q)
 race_here q c =
@@ -57,10 +64,13 @@ race_here q c =
     (λ here. at_test (is_some c.answer) here)
     (λ other. rw (other, other))
   where
-    at_test : (b : Bool) → same_place c.place q ≡ true → claim_at (Some (race_claim q c)) q ≡ map raced_now (claim_at (Some c) q)
-    at_test b here = cases_bool (is_some c.answer) (claim_at (Some (race_claim q c)) q ≡ map raced_now (claim_at (Some c) q)) (λ a. rw (here, a, here)) (λ a. rw (here, a, here))
+    at_test : (b : Bool) → same_place c.place q ≡ true → claim_at (Some (race_claim q c)) q ≡ map raced_now
+        (claim_at (Some c) q)
+    at_test b here = cases_bool (is_some c.answer) (claim_at (Some (race_claim q c)) q ≡ map raced_now
+        (claim_at (Some c) q)) (λ a. rw (here, a, here)) (λ a. rw (here, a, here))
 
-unmoved : (c d : Claim) (p : Place) → d.place ≡ c.place → same_place c.place p ≡ false → claim_at (Some d) p ≡ claim_at (Some c) p
+unmoved : (c d : Claim) (p : Place) → d.place ≡ c.place → same_place c.place p ≡ false
+    → claim_at (Some d) p ≡ claim_at (Some c) p
 unmoved c d p e o = rw (e, o)
 
 race_place : (q : Place) (c : Claim) → (race_claim q c).place ≡ c.place
@@ -77,10 +87,12 @@ back_place q c = by_test (same_place c.place q)
     by_test true = refl
     by_test false = refl
 
-pub race_other : (q p : Place) (c : Claim) → same_place q p ≡ false → claim_at (Some (race_claim q c)) p ≡ claim_at (Some c) p
+pub race_other : (q p : Place) (c : Claim) → same_place q p ≡ false
+    → claim_at (Some (race_claim q c)) p ≡ claim_at (Some c) p
 race_other q p c e =
     cases_bool (same_place c.place q) (claim_at (Some (race_claim q c)) p ≡ claim_at (Some c) p)
-    (λ here. unmoved c (race_claim q c) p (race_place q c) (subst (λ r. same_place r p ≡ false) (sym (same_place_eq c.place q here)) e))
+    (λ here. unmoved c (race_claim q c) p (race_place q c) (subst (λ r. same_place r p ≡ false)
+    (sym (same_place_eq c.place q here)) e))
     (λ other. rw other)
 
 pub back_here : (q : Place) (c : Claim) → claim_at (Some (back_claim q c)) q ≡ map back_now (claim_at (Some c) q)
@@ -89,10 +101,12 @@ back_here q c =
     (λ here. rw (here, here))
     (λ other. rw (other, other))
 
-pub back_other : (q p : Place) (c : Claim) → same_place q p ≡ false → claim_at (Some (back_claim q c)) p ≡ claim_at (Some c) p
+pub back_other : (q p : Place) (c : Claim) → same_place q p ≡ false
+    → claim_at (Some (back_claim q c)) p ≡ claim_at (Some c) p
 back_other q p c e =
     cases_bool (same_place c.place q) (claim_at (Some (back_claim q c)) p ≡ claim_at (Some c) p)
-    (λ here. unmoved c (back_claim q c) p (back_place q c) (subst (λ r. same_place r p ≡ false) (sym (same_place_eq c.place q here)) e))
+    (λ here. unmoved c (back_claim q c) p (back_place q c) (subst (λ r. same_place r p ≡ false)
+    (sym (same_place_eq c.place q here)) e))
     (λ other. rw other)
 
 -- the task's frame after a change of all claims

@@ -45,7 +45,7 @@ same_values live k None None d x y = refl
 same_values live k (Some g) None d x y = none_value (living_at live (record { key = k; handle = g })) x
 
 -- a record that is there, and what follows it
-record After (b : List ℕ) (r : Recipe) (rest : List ℕ) : Type 0 where
+pub record After (b : List ℕ) (r : Recipe) (rest : List ℕ) : Type 0 where
   pub rest_is : rest ≡ drop (16 + length r.content) b
   pub shorter : length rest < length b
 
@@ -68,7 +68,7 @@ cut_rest b w r rest long key command previous e =
     drop-drop-at : (w : ℕ) (b : List ℕ) → drop w (drop 16 b) ≡ drop (16 + w) b
     drop-drop-at w b = drop-drop w 16 b
 
-rest_of : (b : List ℕ) (r : Recipe) (rest : List ℕ) → first_of b ≡ One r rest → After b r rest
+pub rest_of : (b : List ℕ) (r : Recipe) (rest : List ℕ) → first_of b ≡ One r rest → After b r rest
 rest_of b r rest e =
     cases_bool (length b == 0) (After b r rest)
     (λ empty. let k : End ≡ One r rest = rw empty at e in cc)

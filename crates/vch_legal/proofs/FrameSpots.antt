@@ -35,26 +35,32 @@ claims_behind m t p = behind (λ (x : Tasked). frame_claims x.frame p) m.tasks (
 -- the spot where the task's frame is replaced by another
 abbrev pub spot_by : Machine → ℕ → Option Frame → Place → Spot
 spot_by m t g p =
-    one (is_some (living_at m.live p)) (is_fixed m p) (frame_holds g p || kept_named m t p) (frame_expects g p || others_expect m t p)
+    one (is_some (living_at m.live p)) (is_fixed m p) (frame_holds g p || kept_named m t p)
+    (frame_expects g p || others_expect m t p)
     (claims_before m t p ++ (frame_claims g p ++ claims_behind m t p))
 
 regroup : (a b c d : Bool) → ((a || (b || c)) || d) ≡ (c || ((a || b) || d))
 regroup a b c d = grind arith
 
-pub one_eq : (live fixed a b c d : Bool) (x y : List Claim) → a ≡ b → c ≡ d → x ≡ y → one live fixed a c x ≡ one live fixed b d y
+pub one_eq : (live fixed a b c d : Bool) (x y : List Claim) → a ≡ b → c ≡ d → x ≡ y
+    → one live fixed a c x ≡ one live fixed b d y
 one_eq live fixed a b c d x y e f g = cc
 
-pub spot_set : (m : Machine) (t : ℕ) (g : Option Frame) (p : Place) → t - 1 < length m.tasks → spot (with_frame m t g) p ≡ spot_by m t g p
+pub spot_set : (m : Machine) (t : ℕ) (g : Option Frame) (p : Place) → t - 1 < length m.tasks
+    → spot (with_frame m t g) p ≡ spot_by m t g p
 spot_set m t g p l =
     one_eq (is_some (living_at m.live p)) (is_fixed m p) _ _ _ _ _ _
-    (any_set (task_holds p) m.tasks (t - 1) (record (tasked m t) { frame = g }) l ∙ regroup (names_hold m t p) (queue_holds m t p) (frame_holds g p) (others_hold m t p))
+    (any_set (task_holds p) m.tasks (t - 1) (record (tasked m t) { frame = g }) l
+    ∙ regroup (names_hold m t p) (queue_holds m t p) (frame_holds g p) (others_hold m t p))
     (any_set (λ (x : Tasked). frame_expects x.frame p) m.tasks (t - 1) (record (tasked m t) { frame = g }) l)
     (all_set (λ (x : Tasked). frame_claims x.frame p) m.tasks (t - 1) (record (tasked m t) { frame = g }) l)
 
-pub spot_split : (m : Machine) (t : ℕ) (p : Place) → t - 1 < length m.tasks → spot m p ≡ spot_by m t (tasked m t).frame p
+pub spot_split : (m : Machine) (t : ℕ) (p : Place) → t - 1 < length m.tasks
+    → spot m p ≡ spot_by m t (tasked m t).frame p
 spot_split m t p l =
     one_eq (is_some (living_at m.live p)) (is_fixed m p) _ _ _ _ _ _
-    (any_split (task_holds p) m.tasks (t - 1) idle l ∙ regroup (names_hold m t p) (queue_holds m t p) (frame_holds (tasked m t).frame p) (others_hold m t p))
+    (any_split (task_holds p) m.tasks (t - 1) idle l ∙ regroup (names_hold m t p) (queue_holds m t p)
+    (frame_holds (tasked m t).frame p) (others_hold m t p))
     (any_split (λ (x : Tasked). frame_expects x.frame p) m.tasks (t - 1) idle l)
     (all_split (λ (x : Tasked). frame_claims x.frame p) m.tasks (t - 1) idle l)
 
@@ -62,15 +68,19 @@ pub task_in_range : (m : Machine) (t : ℕ) (f : Frame) → (tasked m t).frame �
 task_in_range m t f e = in_range m.tasks (t - 1) f e
 
 -- a spot of a machine with a frame
-pub spot_of : (m : Machine) (t : ℕ) (f : Frame) (p : Place) → (tasked m t).frame ≡ Some f → spot m p ≡ spot_by m t (Some f) p
+pub spot_of : (m : Machine) (t : ℕ) (f : Frame) (p : Place) → (tasked m t).frame ≡ Some f
+    → spot m p ≡ spot_by m t (Some f) p
 spot_of m t f p e = spot_split m t p (task_in_range m t f e) ∙ ap (λ g. spot_by m t g p) e
 
 -- frames that are the same to a place
 pub spot_same : (m : Machine) (t : ℕ) (f : Frame) (g : Option Frame) (p : Place) → (tasked m t).frame ≡ Some f
-    → frame_holds g p ≡ frame_holds (Some f) p → frame_expects g p ≡ frame_expects (Some f) p → frame_claims g p ≡ frame_claims (Some f) p
+    → frame_holds g p ≡ frame_holds (Some f) p → frame_expects g p ≡ frame_expects (Some f) p
+    → frame_claims g p ≡ frame_claims (Some f) p
     → spot (with_frame m t g) p ≡ spot m p
 spot_same m t f g p e holds expects claims =
     let a : spot (with_frame m t g) p ≡ spot_by m t g p = spot_set m t g p (task_in_range m t f e) in
     let b : spot m p ≡ spot_by m t (Some f) p = spot_of m t f p e in
-    let c : spot_by m t g p ≡ spot_by m t (Some f) p = one_eq _ _ _ _ _ _ _ _ (ap (λ h. h || kept_named m t p) holds) (ap (λ h. h || others_expect m t p) expects) (ap (λ cs. claims_before m t p ++ (cs ++ claims_behind m t p)) claims) in
+    let c : spot_by m t g p ≡ spot_by m t (Some f) p = one_eq _ _ _ _ _ _ _ _ (ap (λ h. h || kept_named m t p) holds)
+    (ap (λ h. h || others_expect m t p) expects) (ap (λ cs. claims_before m t p ++ (cs ++ claims_behind m t p))
+    claims) in
     a ∙ (c ∙ sym b)

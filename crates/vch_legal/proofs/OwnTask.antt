@@ -22,7 +22,8 @@ use Rattle.vch_machine.specs.Working.{Worked, changed, changed_at, changed_keys,
 use Rattle.vch_legal.specs.Facts.{FrameFits, OptionFits, SendsToTasks}
 
 -- a property of a task, where a task of the list is replaced
-pub set_keeps : (Q : Tasked → Type 0) (xs : List Tasked) (i j : ℕ) (x : Tasked) → (i ≡ j → Q x) → Q (get_or xs j idle) → Q (get_or (set xs i x) j idle)
+pub set_keeps : (Q : Tasked → Type 0) (xs : List Tasked) (i j : ℕ) (x : Tasked) → (i ≡ j → Q x) → Q (get_or xs j idle)
+    → Q (get_or (set xs i x) j idle)
 set_keeps Q [] i j x h k = k
 set_keeps Q (y ∷ xs) zero zero x h k = h refl
 set_keeps Q (y ∷ xs) zero (suc j) x h k = k
@@ -51,16 +52,33 @@ same_length : (n : ℕ) → n ≤ n
 same_length n = omega arith
 
 pub near_self : (t : ℕ) (m : Machine) → Near t m m
-near_self t m = record { live = refl; pools = refl; tally = refl; older = same_length (length m.past); tasks = refl; begun = refl }
+near_self t m = record {
+  live = refl;
+  pools = refl;
+  tally = refl;
+  older = same_length
+      (length m.past);
+  tasks = refl;
+  begun = refl;
+}
 
 pub near_then : (t : ℕ) (m n o : Machine) → Near t m n → Near t n o → Near t m o
 near_then t m n o a b =
-    record { live = b.live ∙ a.live; pools = b.pools ∙ a.pools; tally = b.tally ∙ a.tally; older = le_trans a.older b.older; tasks = b.tasks ∙ a.tasks; begun = b.begun ∙ a.begun }
+    record {
+      live = b.live ∙ a.live;
+      pools = b.pools ∙ a.pools;
+      tally = b.tally
+          ∙ a.tally;
+      older = le_trans a.older b.older;
+      tasks = b.tasks ∙ a.tasks;
+      begun = b.begun ∙ a.begun;
+    }
   where
     le_trans : {a b c : ℕ} → a ≤ b → b ≤ c → a ≤ c
     le_trans h k = omega arith
 
-pub near_task : (t u : ℕ) (m : Machine) (x : Tasked) → (u - 1 ≡ t - 1 → x.begun ≡ (tasked m t).begun) → Near t m (with_tasked m u x)
+pub near_task : (t u : ℕ) (m : Machine) (x : Tasked) → (u - 1 ≡ t - 1 → x.begun ≡ (tasked m t).begun)
+    → Near t m (with_tasked m u x)
 near_task t u m x h = record {
   live = refl;
   pools = refl;
@@ -77,13 +95,22 @@ pub near_framed : (t : ℕ) (m n : Machine) (g : Option Frame) → Near t m n �
 near_framed t m n g a = near_then t m n (with_frame n t g) a (near_own t n (record (tasked n t) { frame = g }) refl)
 
 pub near_replied : (t : ℕ) (m n : Machine) (call : Call) (r : Reply) → Near t m n → Near t m (replied n t call r)
-near_replied t m n call r a = record { live = a.live; pools = a.pools; tally = a.tally; older = more (length m.past) (length n.past) a.older; tasks = a.tasks; begun = a.begun }
+near_replied t m n call r a = record {
+  live = a.live;
+  pools = a.pools;
+  tally = a.tally;
+  older = more (length m.past)
+      (length n.past) a.older;
+  tasks = a.tasks;
+  begun = a.begun;
+}
   where
     more : (a b : ℕ) → a ≤ b → a ≤ suc b
     more a b h = omega arith
 
 pub near_queued : (t to : ℕ) (m : Machine) (q : Message) → Near t m (enqueued m to q)
-near_queued t to m q = near_task t to m (record (tasked m to) { queue = (tasked m to).queue ++ q ∷ [] }) (λ e. ap (λ i. (get_or m.tasks i idle).begun) e)
+near_queued t to m q = near_task t to m (record (tasked m to) { queue = (tasked m to).queue ++ q ∷ [] })
+    (λ e. ap (λ i. (get_or m.tasks i idle).begun) e)
 
 pub near_either : (t : ℕ) (m n o : Machine) (b : Bool) → Near t m n → Near t m o → Near t m (if b then n else o)
 near_either t m n o true x y = x
@@ -95,14 +122,17 @@ named_begun x v (Some name) = refl
 
 -- a send that is under way at a task is to a task of the scenario
 abbrev pub SentTo : Scenario → ℕ → Machine → Type 0
-SentTo sc t n = (f : Frame) (to : ℕ) (moving : Bool) (name id : ℕ) → (tasked n t).frame ≡ Some f → current sc n t ≡ Some (calls.Send to moving name id) → is_task sc to ≡ true
+SentTo sc t n = (f : Frame) (to : ℕ) (moving : Bool) (name id : ℕ) → (tasked n t).frame ≡ Some f
+    → current sc n t ≡ Some (calls.Send to moving name id) → is_task sc to ≡ true
 
 -- where a frame was there before
-pub sent_begun : (sc : Scenario) (t : ℕ) (m n : Machine) (f : Frame) → SendsToTasks sc m → is_task sc t ≡ true → (tasked m t).frame ≡ Some f → (tasked n t).begun ≡ (tasked m t).begun → SentTo sc t n
+pub sent_begun : (sc : Scenario) (t : ℕ) (m n : Machine) (f : Frame) → SendsToTasks sc m → is_task sc t ≡ true
+    → (tasked m t).frame ≡ Some f → (tasked n t).begun ≡ (tasked m t).begun → SentTo sc t n
 sent_begun sc t m n f sends task e begun g to moving name id frame call =
     sends t f to moving name id task e (sym (ap (λ k. nth_call sc t k) begun) ∙ call)
 
-pub sent_near : (sc : Scenario) (t : ℕ) (m n : Machine) (f : Frame) → SendsToTasks sc m → is_task sc t ≡ true → (tasked m t).frame ≡ Some f → Near t m n → SentTo sc t n
+pub sent_near : (sc : Scenario) (t : ℕ) (m n : Machine) (f : Frame) → SendsToTasks sc m → is_task sc t ≡ true
+    → (tasked m t).frame ≡ Some f → Near t m n → SentTo sc t n
 sent_near sc t m n f sends task e near = sent_begun sc t m n f sends task e near.begun
 
 -- Few handles to let go.
@@ -136,7 +166,10 @@ item_fits lets k x e = rw e (let h : length (item k x) ≤ 1 = item_few k x in o
 
 pub places_few : (v : Handles) → length (places v) ≤ 3
 places_few v =
-    rw (length-append (item keys.Importance v.importance) (item keys.Bank v.bank ++ item keys.User v.user), length-append (item keys.Bank v.bank) (item keys.User v.user))
+    rw (
+      length-append (item keys.Importance v.importance) (item keys.Bank v.bank ++ item keys.User v.user),
+      length-append (item keys.Bank v.bank) (item keys.User v.user),
+    )
     (let a : length (item keys.Importance v.importance) ≤ 1 = item_few keys.Importance v.importance in
     let b : length (item keys.Bank v.bank) ≤ 1 = item_few keys.Bank v.bank in
     let c : length (item keys.User v.user) ≤ 1 = item_few keys.User v.user in omega arith)
@@ -164,10 +197,12 @@ abbrev LeftFew : ℕ → Result Worked ℤ → Type 0
 LeftFew n (Ok w) = length w.left ≤ n
 LeftFew n (Err code) = Unit {0}
 
-changed_few : (k : Key) (x : Option (Option ℕ)) (w : Worked) (n : ℕ) → length w.left ≤ n → length (changed k x w).left ≤ n + 1
+changed_few : (k : Key) (x : Option (Option ℕ)) (w : Worked) (n : ℕ) → length w.left ≤ n
+    → length (changed k x w).left ≤ n + 1
 changed_few k None w n h = omega arith
 changed_few k (Some x) w n h =
-    rw (length-append w.left (item k (of_key k w.forming))) (let i : length (item k (of_key k w.forming)) ≤ 1 = item_few k (of_key k w.forming) in omega arith)
+    rw (length-append w.left (item k (of_key k w.forming))) (let i : length
+    (item k (of_key k w.forming)) ≤ 1 = item_few k (of_key k w.forming) in omega arith)
 
 left_if : (b : Bool) (n : ℕ) (x y : Result Worked ℤ) → LeftFew n x → LeftFew n y → LeftFew n (if b then x else y)
 left_if true n x y h k = h
@@ -180,7 +215,8 @@ at_few f (Some k) w h = let i : length (changed k (f k) w).left ≤ 0 + 1 = chan
 keys_few : (f : Key → Option (Option ℕ)) (key : ℕ) (w : Worked) → length w.left ≤ 0 → LeftFew 3 (changed_keys f key w)
 keys_few f key w h =
     left_if (key == 4294967295) 3 _ _
-    (changed_few keys.User (f keys.User) _ 2 (changed_few keys.Bank (f keys.Bank) _ 1 (changed_few keys.Importance (f keys.Importance) w 0 h)))
+    (changed_few keys.User (f keys.User) _ 2 (changed_few keys.Bank (f keys.Bank) _ 1
+    (changed_few keys.Importance (f keys.Importance) w 0 h)))
     (at_few f (key_of key) w h)
 
 copied_few : (previous : Option Handles) (key : ℕ) (w : Worked) → length w.left ≤ 0 → LeftFew 3 (copied previous key w)
@@ -196,7 +232,8 @@ worked_few r previous w h =
     (left_if (r.command == 1) 3 _ _ (copied_few previous r.key w h) (keys_few (removes previous w.forming) r.key w h))))
     tt)
 
-with_few : (r : Recipe) (previous : Option Handles) (w : Worked) → length w.left ≤ 0 → LeftFew 3 (worked_with r previous w)
+with_few : (r : Recipe) (previous : Option Handles) (w : Worked) → length w.left ≤ 0
+    → LeftFew 3 (worked_with r previous w)
 with_few r None w h = tt
 with_few r (Some v) w h = worked_few r (Some v) w h
 
@@ -205,7 +242,8 @@ no_left = omega arith
 
 pub first_few : (names : List Named) (first : First) (map : Handles) → LeftFew 3 (work_first names first map)
 first_few names (One r rest) map =
-    left_if (r.previous == 0) 3 _ _ (worked_few r None (record { forming = map; left = [] }) no_left) (with_few r (handles_of names r.previous) (record { forming = map; left = [] }) no_left)
+    left_if (r.previous == 0) 3 _ _ (worked_few r None (record { forming = map; left = [] }) no_left)
+    (with_few r (handles_of names r.previous) (record { forming = map; left = [] }) no_left)
 first_few names First.End map = tt
 first_few names (First.HeaderCut left) map = tt
 first_few names (First.ContentCut wanted left) map = tt
@@ -213,7 +251,8 @@ first_few names (First.ContentCut wanted left) map = tt
 three_more : (lets left : List Place) → lets ≡ [] → length left ≤ 3 → length (lets ++ left) ≤ 6
 three_more lets left e h = rw e (omega arith)
 
-pub work_few : (names : List Named) (first : First) (map : Handles) (lets : List Place) (w : Worked) → work_first names first map ≡ Ok w → lets ≡ [] → length (lets ++ w.left) ≤ 6
+pub work_few : (names : List Named) (first : First) (map : Handles) (lets : List Place) (w : Worked)
+    → work_first names first map ≡ Ok w → lets ≡ [] → length (lets ++ w.left) ≤ 6
 work_few names first map lets w e empty = three_more lets w.left empty (subst (LeftFew 3) e (first_few names first map))
 
 pub refuse_few : (lets : List Place) (v : Option Handles) → lets ≡ [] → length (lets ++ option_places v) ≤ 6

@@ -44,7 +44,8 @@ same_place_refl p = grind arith
 pub same_place_comm : (p q : Place) → same_place p q ≡ same_place q p
 same_place_comm p q = grind arith
 
-closed_parts : (v : Option Handles) (n : ℕ) (ks : List Key) (r : Option Place) (lets : List Place) (c : Option Claim) (p : Place)
+closed_parts : (v : Option Handles) (n : ℕ) (ks : List Key) (r : Option Place) (lets : List Place) (c : Option Claim)
+    (p : Place)
     → frame_holds (closed (record { forming = v; at_byte = n; keys = ks; receipt = r; lets = lets; claim = c })) p
     ≡ frame_holds (Some (record { forming = v; at_byte = n; keys = ks; receipt = r; lets = lets; claim = c })) p
 closed_parts (Some v) n ks r lets c p = refl
@@ -56,8 +57,10 @@ closed_parts None n ks None [] None p = refl
 pub closed_holds : (f : Frame) (p : Place) → frame_holds (closed f) p ≡ frame_holds (Some f) p
 closed_holds f p = closed_parts f.forming f.at_byte f.keys f.receipt f.lets f.claim p
 
-expects_parts : (v : Option Handles) (n : ℕ) (ks : List Key) (r : Option Place) (lets : List Place) (c : Option Claim) (p : Place)
-    → frame_expects (closed (record { forming = v; at_byte = n; keys = ks; receipt = r; lets = lets; claim = c })) p ≡ is_place r p
+expects_parts : (v : Option Handles) (n : ℕ) (ks : List Key) (r : Option Place) (lets : List Place) (c : Option Claim)
+    (p : Place)
+    → frame_expects (closed (record { forming = v; at_byte = n; keys = ks; receipt = r; lets = lets; claim = c })) p
+    ≡ is_place r p
 expects_parts (Some v) n ks r lets c p = refl
 expects_parts None n ks (Some r) lets c p = refl
 expects_parts None n ks None lets (Some c) p = refl
@@ -67,8 +70,10 @@ expects_parts None n ks None [] None p = refl
 pub closed_expects : (f : Frame) (p : Place) → frame_expects (closed f) p ≡ is_place f.receipt p
 closed_expects f p = expects_parts f.forming f.at_byte f.keys f.receipt f.lets f.claim p
 
-claims_parts : (v : Option Handles) (n : ℕ) (ks : List Key) (r : Option Place) (lets : List Place) (c : Option Claim) (p : Place)
-    → frame_claims (closed (record { forming = v; at_byte = n; keys = ks; receipt = r; lets = lets; claim = c })) p ≡ claim_at c p
+claims_parts : (v : Option Handles) (n : ℕ) (ks : List Key) (r : Option Place) (lets : List Place) (c : Option Claim)
+    (p : Place)
+    → frame_claims (closed (record { forming = v; at_byte = n; keys = ks; receipt = r; lets = lets; claim = c })) p
+    ≡ claim_at c p
 claims_parts (Some v) n ks r lets c p = refl
 claims_parts None n ks (Some r) lets c p = refl
 claims_parts None n ks None lets (Some c) p = refl

@@ -36,7 +36,8 @@ same_item keys.Bank (Some b) n h a e = grind arith
 same_item keys.User None n h a e = grind arith
 same_item keys.User (Some b) n h a e = grind arith
 
-other_item : (k g : Key) (x : Option ℕ) (n : ℕ) → (number_of k == number_of g) ≡ false → lets_hold (item k x) (at_key g n) ≡ false
+other_item : (k g : Key) (x : Option ℕ) (n : ℕ) → (number_of k == number_of g) ≡ false
+    → lets_hold (item k x) (at_key g n) ≡ false
 other_item k g None n e = refl
 other_item k g (Some b) n e = rw e
 
@@ -44,15 +45,22 @@ or_false : (y a b : Bool) → b ≡ false → (y || (a || b)) ≡ (y || a)
 or_false y a b e = grind arith
 
 swap_at : (k g : Key) (h n : ℕ) (v : Handles) (a : Bool) → same_place (at_key k h) (at_key g n) ≡ false
-    → (has_place (with_key k (Some h) v) (at_key g n) || (a || lets_hold (item k (of_key k v)) (at_key g n))) ≡ (has_place v (at_key g n) || a)
+    → (has_place (with_key k (Some h) v) (at_key g n) || (a || lets_hold (item k (of_key k v)) (at_key g n))) ≡
+    (has_place v (at_key g n) || a)
 swap_at keys.Importance keys.Importance h n v a e = same_item keys.Importance v.importance n h a e
-swap_at keys.Importance keys.Bank h n v a e = or_false (has_place v (at_key keys.Bank n)) a _ (other_item keys.Importance keys.Bank v.importance n refl)
-swap_at keys.Importance keys.User h n v a e = or_false (has_place v (at_key keys.User n)) a _ (other_item keys.Importance keys.User v.importance n refl)
-swap_at keys.Bank keys.Importance h n v a e = or_false (has_place v (at_key keys.Importance n)) a _ (other_item keys.Bank keys.Importance v.bank n refl)
+swap_at keys.Importance keys.Bank h n v a e = or_false (has_place v (at_key keys.Bank n)) a _
+    (other_item keys.Importance keys.Bank v.importance n refl)
+swap_at keys.Importance keys.User h n v a e = or_false (has_place v (at_key keys.User n)) a _
+    (other_item keys.Importance keys.User v.importance n refl)
+swap_at keys.Bank keys.Importance h n v a e = or_false (has_place v (at_key keys.Importance n)) a _
+    (other_item keys.Bank keys.Importance v.bank n refl)
 swap_at keys.Bank keys.Bank h n v a e = same_item keys.Bank v.bank n h a e
-swap_at keys.Bank keys.User h n v a e = or_false (has_place v (at_key keys.User n)) a _ (other_item keys.Bank keys.User v.bank n refl)
-swap_at keys.User keys.Importance h n v a e = or_false (has_place v (at_key keys.Importance n)) a _ (other_item keys.User keys.Importance v.user n refl)
-swap_at keys.User keys.Bank h n v a e = or_false (has_place v (at_key keys.Bank n)) a _ (other_item keys.User keys.Bank v.user n refl)
+swap_at keys.Bank keys.User h n v a e = or_false (has_place v (at_key keys.User n)) a _
+    (other_item keys.Bank keys.User v.bank n refl)
+swap_at keys.User keys.Importance h n v a e = or_false (has_place v (at_key keys.Importance n)) a _
+    (other_item keys.User keys.Importance v.user n refl)
+swap_at keys.User keys.Bank h n v a e = or_false (has_place v (at_key keys.Bank n)) a _
+    (other_item keys.User keys.Bank v.user n refl)
 swap_at keys.User keys.User h n v a e = same_item keys.User v.user n h a e
 
 -- what moving on leaves of a frame
@@ -68,7 +76,8 @@ moved_if false f g h x y = y
 
 moved_one : (f : Frame) (first : First) → Moved f (moved_first f first)
 moved_one f (One r rest) = moved_if ((r.key == 4294967295) && not (is_empty (tail_keys f.keys))) f _ _
-    (record { forming = refl; receipt = refl; lets = refl; claim = refl }) (record { forming = refl; receipt = refl; lets = refl; claim = refl })
+    (record { forming = refl; receipt = refl; lets = refl; claim = refl })
+    (record { forming = refl; receipt = refl; lets = refl; claim = refl })
 moved_one f First.End = record { forming = refl; receipt = refl; lets = refl; claim = refl }
 moved_one f (First.HeaderCut left) = record { forming = refl; receipt = refl; lets = refl; claim = refl }
 moved_one f (First.ContentCut wanted left) = record { forming = refl; receipt = refl; lets = refl; claim = refl }
@@ -79,15 +88,22 @@ moved_same call f = record { forming = refl; receipt = refl; lets = refl; claim 
 
 -- the frame after a Refer
 abbrev pub referred : Frame → Handles → Place → Frame
-referred f v q = record f { forming = Some (with_key q.key (Some q.handle) v); lets = f.lets ++ item q.key (of_key q.key v); receipt = None }
+referred f v q = record f {
+  forming = Some (with_key q.key (Some q.handle) v);
+  lets = f.lets ++ item q.key
+      (of_key q.key v);
+  receipt = None;
+}
 
 pub holds_eq : (f g : Frame) (p : Place) → Moved f g → frame_holds (Some g) p ≡ frame_holds (Some f) p
-holds_eq f g p same = ap (λ x. option_has x p || lets_hold g.lets p) same.forming ∙ ap (λ x. option_has f.forming p || lets_hold x p) same.lets
+holds_eq f g p same = ap (λ x. option_has x p || lets_hold g.lets p) same.forming
+    ∙ ap (λ x. option_has f.forming p || lets_hold x p) same.lets
 
 referred_holds : (f : Frame) (v : Handles) (q p : Place) → f.forming ≡ Some v → same_place q p ≡ false
     → frame_holds (Some (referred f v q)) p ≡ frame_holds (Some f) p
 referred_holds f v q p e other =
-    ap (λ x. has_place (with_key q.key (Some q.handle) v) p || x) (list_any-append (λ r. same_place r p) f.lets (item q.key (of_key q.key v)))
+    ap (λ x. has_place (with_key q.key (Some q.handle) v) p || x)
+    (list_any-append (λ r. same_place r p) f.lets (item q.key (of_key q.key v)))
     ∙ (swap_at q.key p.key q.handle p.handle v (lets_hold f.lets p) other
     ∙ sym (ap (λ x. option_has x p || lets_hold f.lets p) e))
 
@@ -103,14 +119,20 @@ or_true a b c e = grind arith
 abbrev backed : Machine → Place → Machine
 backed m q = on_claims (back_claim q) m
 
-pub refer_other : (m : Machine) (t : ℕ) (f : Frame) (v : Handles) (call : Call) (q p : Place) → (tasked m t).frame ≡ Some f
+pub refer_other : (m : Machine) (t : ℕ) (f : Frame) (v : Handles) (call : Call) (q p : Place)
+    → (tasked m t).frame ≡ Some f
     → f.forming ≡ Some v → f.claim ≡ None → f.receipt ≡ Some q → same_place q p ≡ false
     → spot (do_refer m t f v call q) p ≡ spot m p
 refer_other m t f v call q p e forming claim receipt other =
-    spot_same (backed m q) t (record f { claim = on_claim (back_claim q) f.claim }) (closed (moved call (referred f v q))) p (frame_on m t f (back_claim q) e)
-    (closed_holds (moved call (referred f v q)) p ∙ (holds_eq (referred f v q) (moved call (referred f v q)) p (moved_same call (referred f v q)) ∙ referred_holds f v q p forming other))
-    (closed_expects (moved call (referred f v q)) p ∙ (ap (λ x. is_place x p) (moved_same call (referred f v q)).receipt ∙ sym (ap (λ x. is_place x p) receipt ∙ other)))
-    (closed_claims (moved call (referred f v q)) p ∙ (ap (λ x. claim_at x p) ((moved_same call (referred f v q)).claim ∙ claim) ∙ sym (ap (λ x. claim_at (on_claim (back_claim q) x) p) claim)))
+    spot_same (backed m q) t (record f { claim = on_claim (back_claim q) f.claim })
+    (closed (moved call (referred f v q))) p (frame_on m t f (back_claim q) e)
+    (closed_holds (moved call (referred f v q)) p ∙ (holds_eq (referred f v q) (moved call (referred f v q)) p
+    (moved_same call (referred f v q)) ∙ referred_holds f v q p forming other))
+    (closed_expects (moved call (referred f v q)) p ∙ (ap (λ x. is_place x p)
+    (moved_same call (referred f v q)).receipt ∙ sym (ap (λ x. is_place x p) receipt ∙ other)))
+    (closed_claims (moved call (referred f v q)) p ∙ (ap (λ x. claim_at x p)
+    ((moved_same call (referred f v q)).claim ∙ claim) ∙ sym
+    (ap (λ x. claim_at (on_claim (back_claim q) x) p) claim)))
     ∙ spot_on_other m (back_claim q) p (λ c. back_other q p c other)
 
 -- a receipt is there after a Refer only by others
@@ -119,19 +141,28 @@ after_expects m t f v call q = frame_expects (closed (moved call (referred f v q
 
 pub refer_here : (m : Machine) (t : ℕ) (f : Frame) (v : Handles) (call : Call) (q : Place) → (tasked m t).frame ≡ Some f
     → f.forming ≡ Some v → f.claim ≡ None
-    → spot (do_refer m t f v call q) q ≡ one (is_some (living_at m.live q)) (is_fixed m q) true (after_expects m t f v call q) (map back_now (claims_on m q))
+    → spot (do_refer m t f v call q) q ≡ one (is_some (living_at m.live q)) (is_fixed m q) true
+    (after_expects m t f v call q) (map back_now (claims_on m q))
 refer_here m t f v call q e forming claim =
-    spot_set (backed m q) t (closed (moved call (referred f v q))) q (task_in_range (backed m q) t _ (frame_on m t f (back_claim q) e))
+    spot_set (backed m q) t (closed (moved call (referred f v q))) q
+    (task_in_range (backed m q) t _ (frame_on m t f (back_claim q) e))
     ∙ one_eq _ _ _ _ _ _ _ _ held refl claims
   where
     held : (frame_holds (closed (moved call (referred f v q))) q || kept_named (backed m q) t q) ≡ true
-    held = ap (λ x. x || kept_named (backed m q) t q) (closed_holds (moved call (referred f v q)) q ∙ holds_eq (referred f v q) (moved call (referred f v q)) q (moved_same call (referred f v q)))
-        ∙ or_true (has_place (with_key q.key (Some q.handle) v) q) (lets_hold (f.lets ++ item q.key (of_key q.key v)) q) (kept_named (backed m q) t q) (has_new q.key q.handle v)
+    held = ap (λ x. x || kept_named (backed m q) t q) (closed_holds (moved call (referred f v q)) q
+        ∙ holds_eq (referred f v q) (moved call (referred f v q)) q (moved_same call (referred f v q)))
+        ∙ or_true (has_place (with_key q.key (Some q.handle) v) q)
+        (lets_hold (f.lets ++ item q.key (of_key q.key v)) q) (kept_named (backed m q) t q)
+        (has_new q.key q.handle v)
 
-    claims : claims_before (backed m q) t q ++ (frame_claims (closed (moved call (referred f v q))) q ++ claims_behind (backed m q) t q) ≡ map back_now (claims_on m q)
+    claims : claims_before (backed m q) t q ++ (frame_claims (closed (moved call (referred f v q))) q ++ claims_behind
+        (backed m q) t q) ≡ map back_now (claims_on m q)
     claims = ap (λ x. claims_before (backed m q) t q ++ (x ++ claims_behind (backed m q) t q))
-        (closed_claims (moved call (referred f v q)) q ∙ (ap (λ x. claim_at x q) ((moved_same call (referred f v q)).claim ∙ claim) ∙ sym (ap (λ x. claim_at (on_claim (back_claim q) x) q) claim)))
-        ∙ (sym (ap (λ s. s.claims) (spot_of (backed m q) t (record f { claim = on_claim (back_claim q) f.claim }) q (frame_on m t f (back_claim q) e)))
+        (closed_claims (moved call (referred f v q)) q ∙ (ap (λ x. claim_at x q)
+        ((moved_same call (referred f v q)).claim ∙ claim)
+        ∙ sym (ap (λ x. claim_at (on_claim (back_claim q) x) q) claim)))
+        ∙ (sym (ap (λ s. s.claims) (spot_of (backed m q) t (record f { claim = on_claim (back_claim q) f.claim }) q
+        (frame_on m t f (back_claim q) e)))
         ∙ ap (λ s. s.claims) (spot_on m (back_claim q) back_now q (back_here q)))
 
 refer_same : (m : Machine) (t : ℕ) (f : Frame) (v : Handles) (call : Call) (q : Place) → (tasked m t).frame ≡ Some f
@@ -147,12 +178,15 @@ refer_same m t f v call q e forming claim receipt h =
     or_left a b k = grind arith
 
     expected : is_expected m q ≡ true
-    expected = ap (λ s. s.expected) (spot_of m t f q e) ∙ or_left (is_place f.receipt q) (others_expect m t q) (ap (λ x. is_place x q) receipt ∙ same_place_refl q)
+    expected = ap (λ s. s.expected) (spot_of m t f q e) ∙ or_left (is_place f.receipt q) (others_expect m t q)
+        (ap (λ x. is_place x q) receipt ∙ same_place_refl q)
 
 -- Refer keeps the facts of every handle
 pub refer_fits : (m : Machine) (t : ℕ) (f : Frame) (v : Handles) (call : Call) (q : Place) → (tasked m t).frame ≡ Some f
     → f.forming ≡ Some v → f.claim ≡ None → f.receipt ≡ Some q → AllFit m → AllFit (do_refer m t f v call q)
 refer_fits m t f v call q e forming claim receipt h p =
     cases_bool (same_place q p) (spot_fits (spot (do_refer m t f v call q) p) ≡ true)
-    (λ here. subst (λ (r : Place). spot_fits (spot (do_refer m t f v call q) r) ≡ true) (same_place_eq q p here) (refer_same m t f v call q e forming claim receipt (h q)))
-    (λ other. fits_of (spot (do_refer m t f v call q) p) (spot m p) (refer_other m t f v call q p e forming claim receipt other) (h p))
+    (λ here. subst (λ (r : Place). spot_fits (spot (do_refer m t f v call q) r) ≡ true) (same_place_eq q p here)
+    (refer_same m t f v call q e forming claim receipt (h q)))
+    (λ other. fits_of (spot (do_refer m t f v call q) p) (spot m p)
+    (refer_other m t f v call q p e forming claim receipt other) (h p))

@@ -152,7 +152,7 @@ join_free n q f r v e g = grind arith
 rest_free : (n q f r : Bool) → ((n || (q || f)) || r) ≡ false → r ≡ false
 rest_free n q f r e = grind arith
 
-none_hold : (p : Place) (xs : List Tasked) → list_any (task_holds p) xs ≡ false → list_any (vouchers_hold p) xs ≡ false
+pub none_hold : (p : Place) (xs : List Tasked) → list_any (task_holds p) xs ≡ false → list_any (vouchers_hold p) xs ≡ false
 none_hold p [] g = refl
 none_hold p (x ∷ xs) g =
     join_free (list_any (λ (n : Named). has_place n.voucher p) x.names) (list_any (λ (q : Message). option_has q.voucher p) x.queue) (frame_holds x.frame p)

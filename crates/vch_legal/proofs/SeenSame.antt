@@ -48,7 +48,7 @@ mk a b c = record { importance = a; bank = b; user = c }
 voucher_parts : (a b c d e f : Option Value) → a ≡ d → b ≡ e → c ≡ f → mk a b c ≡ mk d e f
 voucher_parts a b c d e f x y z = cc
 
-voucher_same : (a b : List Living) (q : Place) (v : Handles) → AgreeBut q a b → has_place v q ≡ false → valued a v ≡ valued b v
+pub voucher_same : (a b : List Living) (q : Place) (v : Handles) → AgreeBut q a b → has_place v q ≡ false → valued a v ≡ valued b v
 voucher_same a b q v agree e =
     voucher_parts _ _ _ _ _ _
     (value_same a b q keys.Importance v.importance agree (at_each q keys.Importance v e))

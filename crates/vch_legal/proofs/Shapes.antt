@@ -19,7 +19,8 @@ Shape f kinds.Recheck = (c : Claim) × (f.claim ≡ Some c) × (is_some c.answer
 Shape f kinds.LetGo = (f.receipt ≡ None) × (f.claim ≡ None)
 Shape f kind = (f.receipt ≡ None) × (f.claim ≡ None) × (f.lets ≡ [])
 
-by_claim : (f : Frame) (c : Claim) (a : Bool) → f.claim ≡ Some c → is_some c.answer ≡ a → Shape f (if a then kinds.Recheck else kinds.Ask)
+by_claim : (f : Frame) (c : Claim) (a : Bool) → f.claim ≡ Some c → is_some c.answer ≡ a
+    → Shape f (if a then kinds.Recheck else kinds.Ask)
 by_claim f c true e g = (c, e, g)
 by_claim f c false e g = (c, e, g)
 
@@ -40,31 +41,41 @@ shape_first f names First.End i = i
 shape_first f names (First.HeaderCut left) i = i
 shape_first f names (First.ContentCut wanted left) i = i
 
-shape_keys : (f : Frame) (b : Bool) (kind : Kind) → Idle f → (if b then Some kinds.Place else Some kinds.Make) ≡ Some kind → Shape f kind
+shape_keys : (f : Frame) (b : Bool) (kind : Kind) → Idle f → (if b then Some kinds.Place else Some kinds.Make)
+    ≡ Some kind → Shape f kind
 shape_keys f true kind i e = shape_some f kinds.Place kind e i
 shape_keys f false kind i e = shape_some f kinds.Make kind e i
 
-shape_call : (f : Frame) (names : List Named) (place : ℕ) (ks : List Key) (call : Option Call) (kind : Kind) → Idle f → call_next names place ks call ≡ Some kind → Shape f kind
+shape_call : (f : Frame) (names : List Named) (place : ℕ) (ks : List Key) (call : Option Call) (kind : Kind) → Idle f
+    → call_next names place ks call ≡ Some kind → Shape f kind
 shape_call f names place ks None kind i e = cc
-shape_call f names place ks (Some (calls.Create bytes)) kind i e = shape_some f (first_next names (first_of (drop place bytes))) kind e (shape_first f names (first_of (drop place bytes)) i)
+shape_call f names place ks (Some (calls.Create bytes)) kind i e =
+    shape_some f (first_next names (first_of (drop place bytes))) kind e
+    (shape_first f names (first_of (drop place bytes)) i)
 shape_call f names place ks (Some call) kind i e = shape_keys f (is_empty ks) kind i e
 
-shape_formed : (f : Frame) (names : List Named) (call : Option Call) (v : Option Handles) (kind : Kind) → Idle f → formed_next names f call v ≡ Some kind → Shape f kind
+shape_formed : (f : Frame) (names : List Named) (call : Option Call) (v : Option Handles) (kind : Kind) → Idle f
+    → formed_next names f call v ≡ Some kind → Shape f kind
 shape_formed f names call None kind i e = cc
 shape_formed f names call (Some v) kind i e = shape_call f names f.at_byte f.keys call kind i e
 
-shape_lets : (f : Frame) (names : List Named) (call : Option Call) (lets : List Place) (kind : Kind) → f.receipt ≡ None → f.claim ≡ None → f.lets ≡ lets → lets_next names f call lets ≡ Some kind → Shape f kind
+shape_lets : (f : Frame) (names : List Named) (call : Option Call) (lets : List Place) (kind : Kind)
+    → f.receipt ≡ None → f.claim ≡ None → f.lets ≡ lets → lets_next names f call lets ≡ Some kind → Shape f kind
 shape_lets f names call (p ∷ rest) kind r c l e = shape_some f kinds.LetGo kind e (r, c)
 shape_lets f names call [] kind r c l e = shape_formed f names call f.forming kind (r, c, l) e
 
-shape_claim : (f : Frame) (names : List Named) (call : Option Call) (o : Option Claim) (kind : Kind) → f.receipt ≡ None → f.claim ≡ o → unclaimed_next names f call o ≡ Some kind → Shape f kind
-shape_claim f names call (Some c) kind r g e = shape_some f (claim_next c) kind e (by_claim f c (is_some c.answer) g refl)
+shape_claim : (f : Frame) (names : List Named) (call : Option Call) (o : Option Claim) (kind : Kind)
+    → f.receipt ≡ None → f.claim ≡ o → unclaimed_next names f call o ≡ Some kind → Shape f kind
+shape_claim f names call (Some c) kind r g e = shape_some f (claim_next c) kind e
+    (by_claim f c (is_some c.answer) g refl)
 shape_claim f names call None kind r g e = shape_lets f names call f.lets kind r g refl e
 
-shape_receipt : (f : Frame) (names : List Named) (call : Option Call) (o : Option Place) (kind : Kind) → f.receipt ≡ o → frame_next names f call o ≡ Some kind → Shape f kind
+shape_receipt : (f : Frame) (names : List Named) (call : Option Call) (o : Option Place) (kind : Kind) → f.receipt ≡ o
+    → frame_next names f call o ≡ Some kind → Shape f kind
 shape_receipt f names call (Some q) kind r e = shape_some f kinds.Refer kind e (q, r)
 shape_receipt f names call None kind r e = shape_claim f names call f.claim kind r refl e
 
 -- what is known of a frame where an event of this kind is next
-pub shape_of : (f : Frame) (names : List Named) (call : Option Call) (kind : Kind) → frame_next names f call f.receipt ≡ Some kind → Shape f kind
+pub shape_of : (f : Frame) (names : List Named) (call : Option Call) (kind : Kind)
+    → frame_next names f call f.receipt ≡ Some kind → Shape f kind
 shape_of f names call kind e = shape_receipt f names call f.receipt kind refl e

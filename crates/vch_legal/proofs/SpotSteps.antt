@@ -14,16 +14,25 @@ abbrev pub back_now : Claim → Claim
 back_now c = record c { back = true }
 
 abbrev pub one : Bool → Bool → Bool → Bool → List Claim → Spot
-one live fixed held expected claims = record { live = live; fixed = fixed; held = held; expected = expected; claims = claims }
+one live fixed held expected claims = record {
+  live = live;
+  fixed = fixed;
+  held = held;
+  expected = expected;
+  claims =
+      claims;
+}
 
 pub make_old : (fixed held expected : Bool) (cs : List Claim)
-    → spot_fits (one true fixed held expected cs) ≡ true → spot_fits (one true fixed held true (map raced_now cs)) ≡ true
+    → spot_fits (one true fixed held expected cs) ≡ true → spot_fits (one true fixed held true (map raced_now cs))
+    ≡ true
 make_old fixed held expected [] h = grind arith
 make_old fixed held expected (c ∷ []) h = grind arith
 make_old fixed held expected (c ∷ d ∷ cs) h = grind arith
 
 pub make_new : (fixed held expected : Bool) (cs : List Claim)
-    → spot_fits (one false fixed held expected cs) ≡ true → spot_fits (one true false held true (map raced_now cs)) ≡ true
+    → spot_fits (one false fixed held expected cs) ≡ true → spot_fits (one true false held true (map raced_now cs))
+    ≡ true
 make_new fixed held expected [] h = grind arith
 make_new fixed held expected (c ∷ []) h = grind arith
 make_new fixed held expected (c ∷ d ∷ cs) h = grind arith
@@ -35,7 +44,8 @@ refer_keeps live fixed held after (c ∷ []) h = grind arith
 refer_keeps live fixed held after (c ∷ d ∷ cs) h = grind arith
 
 pub let_go_old : (live fixed held expected : Bool) (c : Claim) (cs : List Claim)
-    → spot_fits (one live fixed true expected (c ∷ cs)) ≡ true → spot_fits (one live fixed held expected (c ∷ cs)) ≡ true
+    → spot_fits (one live fixed true expected (c ∷ cs)) ≡ true
+    → spot_fits (one live fixed held expected (c ∷ cs)) ≡ true
 let_go_old live fixed held expected c [] h = grind arith
 let_go_old live fixed held expected c (d ∷ cs) h = grind arith
 
@@ -44,7 +54,8 @@ pub let_go_none : (live fixed held expected : Bool) → (fixed || held) ≡ true
 let_go_none live fixed held expected e h = grind arith
 
 pub let_go_claims : (p : Place) (live expected : Bool)
-    → spot_fits (one live false true expected []) ≡ true → spot_fits (one live false false expected (fresh p expected ∷ [])) ≡ true
+    → spot_fits (one live false true expected []) ≡ true → spot_fits
+    (one live false false expected (fresh p expected ∷ [])) ≡ true
 let_go_claims p live expected h = grind arith
 
 pub ask_agreed : (live fixed held expected : Bool) (c : Claim) (cs : List Claim)
@@ -78,7 +89,8 @@ recheck_ends live fixed held expected c (d ∷ cs) a u h = grind arith
 -- the same with other claims before and behind
 pub let_go_at : (q : Place) (live fixed held expected : Bool) (xs ys : List Claim)
     → spot_fits (one live fixed true expected (xs ++ ys)) ≡ true
-    → spot_fits (one live fixed held expected (xs ++ ((if fixed || (held || not (is_empty (xs ++ ys))) then [] else fresh q expected ∷ []) ++ ys))) ≡ true
+    → spot_fits (one live fixed held expected (xs ++ ((if fixed ||
+    (held || not (is_empty (xs ++ ys))) then [] else fresh q expected ∷ []) ++ ys))) ≡ true
 let_go_at q live fixed held expected [] [] h = grind arith
 let_go_at q live fixed held expected [] (c ∷ []) h = grind arith
 let_go_at q live fixed held expected [] (c ∷ d ∷ ys) h = grind arith
@@ -88,13 +100,15 @@ let_go_at q live fixed held expected (c ∷ d ∷ xs) ys h = grind arith
 
 pub recheck_at : (c : Claim) (live fixed held expected : Bool) (xs ys : List Claim) → is_some c.answer ≡ true
     → spot_fits (one live fixed held expected (xs ++ (c ∷ ys))) ≡ true
-    → spot_fits (one live fixed held expected (xs ++ ((if c.back && not held then fresh c.place expected ∷ [] else []) ++ ys))) ≡ true
+    → spot_fits (one live fixed held expected (xs ++ ((if c.back && not held then fresh c.place expected ∷ [] else [])
+    ++ ys))) ≡ true
 recheck_at c live fixed held expected [] [] a h = grind arith
 recheck_at c live fixed held expected [] (d ∷ ys) a h = grind arith
 recheck_at c live fixed held expected (d ∷ []) ys a h = grind arith
 recheck_at c live fixed held expected (d ∷ e ∷ xs) ys a h = grind arith
 
-pub agreed_at : (c : Claim) (live fixed held expected : Bool) (xs ys : List Claim) → is_some c.answer ≡ false → c.raced ≡ false
+pub agreed_at : (c : Claim) (live fixed held expected : Bool) (xs ys : List Claim) → is_some c.answer ≡ false
+    → c.raced ≡ false
     → spot_fits (one live fixed held expected (xs ++ (c ∷ ys))) ≡ true
     → spot_fits (one false false held expected (xs ++ (record c { answer = Some true } ∷ ys))) ≡ true
 agreed_at c live fixed held expected [] [] a r h = grind arith
@@ -102,7 +116,8 @@ agreed_at c live fixed held expected [] (d ∷ ys) a r h = grind arith
 agreed_at c live fixed held expected (d ∷ []) ys a r h = grind arith
 agreed_at c live fixed held expected (d ∷ e ∷ xs) ys a r h = grind arith
 
-pub refused_at : (c : Claim) (live fixed held expected : Bool) (xs ys : List Claim) → is_some c.answer ≡ false → c.raced ≡ true
+pub refused_at : (c : Claim) (live fixed held expected : Bool) (xs ys : List Claim) → is_some c.answer ≡ false
+    → c.raced ≡ true
     → spot_fits (one live fixed held expected (xs ++ (c ∷ ys))) ≡ true
     → spot_fits (one live fixed held expected (xs ++ (record c { answer = Some false } ∷ ys))) ≡ true
 refused_at c live fixed held expected [] [] a r h = grind arith

@@ -25,7 +25,8 @@ abbrev pub lets_hold : List Place → Place → Bool
 lets_hold lets p = list_any (λ q. same_place q p) lets
 
 -- what an item of a key is to a place
-pub item_holds : (k g : Key) (x : Option ℕ) (n : ℕ) → lets_hold (item k x) (at_key g n) ≡ ((number_of k == number_of g) && is_handle x n)
+pub item_holds : (k g : Key) (x : Option ℕ) (n : ℕ) → lets_hold (item k x) (at_key g n) ≡
+    ((number_of k == number_of g) && is_handle x n)
 item_holds k g None n = and_false (number_of k == number_of g)
   where
     and_false : (b : Bool) → false ≡ (b && false)
@@ -36,7 +37,8 @@ item_holds k g (Some h) n = or_false ((number_of k == number_of g) && (h == n))
     or_false b = grind arith
 
 pub of_voucher : (k g : Key) (x : Option ℕ) (v : Handles) (n : ℕ)
-    → is_handle (of_key g (with_key k x v)) n ≡ (if number_of k == number_of g then is_handle x n else is_handle (of_key g v) n)
+    → is_handle (of_key g (with_key k x v)) n ≡ (if number_of k == number_of g then is_handle x n else is_handle
+    (of_key g v) n)
 of_voucher keys.Importance keys.Importance x v n = refl
 of_voucher keys.Importance keys.Bank x v n = refl
 of_voucher keys.Importance keys.User x v n = refl
@@ -47,7 +49,8 @@ of_voucher keys.User keys.Importance x v n = refl
 of_voucher keys.User keys.Bank x v n = refl
 of_voucher keys.User keys.User x v n = refl
 
-same_key_handle : (k g : Key) (v : Handles) (n : ℕ) → ((number_of k == number_of g) && is_handle (of_key k v) n) ≡ ((number_of k == number_of g) && is_handle (of_key g v) n)
+same_key_handle : (k g : Key) (v : Handles) (n : ℕ) → ((number_of k == number_of g) && is_handle (of_key k v) n) ≡
+    ((number_of k == number_of g) && is_handle (of_key g v) n)
 same_key_handle keys.Importance keys.Importance v n = refl
 same_key_handle keys.Importance keys.Bank v n = refl
 same_key_handle keys.Importance keys.User v n = refl
@@ -58,7 +61,8 @@ same_key_handle keys.User keys.Importance v n = refl
 same_key_handle keys.User keys.Bank v n = refl
 same_key_handle keys.User keys.User v n = refl
 
-swap_bools : (same x y a n : Bool) → ((same && x) ≡ true → n ≡ true) → (((if same then x else y) || (a || (same && y))) || n) ≡ ((y || a) || n)
+swap_bools : (same x y a n : Bool) → ((same && x) ≡ true → n ≡ true)
+    → (((if same then x else y) || (a || (same && y))) || n) ≡ ((y || a) || n)
 swap_bools true true true a n h = let k : n ≡ true = h refl in grind arith
 swap_bools true true false a n h = let k : n ≡ true = h refl in grind arith
 swap_bools true false y a n h = grind arith
@@ -67,12 +71,16 @@ swap_bools false x y a n h = grind arith
 -- a key of a map is replaced, and what was there goes to a list; what is new is held already
 pub swap_holds : (k g : Key) (x : Option ℕ) (v : Handles) (h : ℕ) (lets : List Place) (n : Bool)
     → (((number_of k == number_of g) && is_handle x h) ≡ true → n ≡ true)
-    → ((has_place (with_key k x v) (at_key g h) || lets_hold (lets ++ item k (of_key k v)) (at_key g h)) || n) ≡ ((has_place v (at_key g h) || lets_hold lets (at_key g h)) || n)
+    → ((has_place (with_key k x v) (at_key g h) || lets_hold (lets ++ item k (of_key k v)) (at_key g h)) || n) ≡
+    ((has_place v (at_key g h) || lets_hold lets (at_key g h)) || n)
 swap_holds k g x v h lets n new =
     ap (λ b. (has_place (with_key k x v) (at_key g h) || b) || n)
-    (list_any-append (λ q. same_place q (at_key g h)) lets (item k (of_key k v)) ∙ ap (λ b. lets_hold lets (at_key g h) || b) (item_holds k g (of_key k v) h ∙ same_key_handle k g v h))
-    ∙ (ap (λ b. (b || (lets_hold lets (at_key g h) || ((number_of k == number_of g) && is_handle (of_key g v) h))) || n) (of_voucher k g x v h)
-    ∙ swap_bools (number_of k == number_of g) (is_handle x h) (is_handle (of_key g v) h) (lets_hold lets (at_key g h)) n new)
+    (list_any-append (λ q. same_place q (at_key g h)) lets (item k (of_key k v))
+    ∙ ap (λ b. lets_hold lets (at_key g h) || b) (item_holds k g (of_key k v) h ∙ same_key_handle k g v h))
+    ∙ (ap (λ b. (b || (lets_hold lets (at_key g h) || ((number_of k == number_of g) && is_handle (of_key g v) h)))
+    || n) (of_voucher k g x v h)
+    ∙ swap_bools (number_of k == number_of g) (is_handle x h) (is_handle (of_key g v) h)
+    (lets_hold lets (at_key g h)) n new)
 
 -- what a map and the handles that left it hold
 abbrev pub worked_holds : Worked → Place → Bool
@@ -90,15 +98,19 @@ three_eq a b c d e f x y z = cc
 first_of_three : (a b c : Bool) → ((true && a) || ((false && b) || (false && c))) ≡ a
 first_of_three a b c = grind arith
 
-of_three : (g : Key) (v : Handles) (h : ℕ) → (lets_hold (item keys.Importance v.importance) (at_key g h) || (lets_hold (item keys.Bank v.bank) (at_key g h) || lets_hold (item keys.User v.user) (at_key g h)))
+of_three : (g : Key) (v : Handles) (h : ℕ) → (lets_hold (item keys.Importance v.importance) (at_key g h) ||
+    (lets_hold (item keys.Bank v.bank) (at_key g h) || lets_hold (item keys.User v.user) (at_key g h)))
     ≡ is_handle (of_key g v) h
 of_three g v h =
-    three_eq _ _ _ _ _ _ (item_holds keys.Importance g v.importance h) (item_holds keys.Bank g v.bank h) (item_holds keys.User g v.user h) ∙ by_key g
+    three_eq _ _ _ _ _ _ (item_holds keys.Importance g v.importance h) (item_holds keys.Bank g v.bank h)
+    (item_holds keys.User g v.user h) ∙ by_key g
   where
     or_false : (b : Bool) → (b || false) ≡ b
     or_false b = grind arith
 
-    by_key : (g : Key) → (((number_of keys.Importance == number_of g) && is_handle v.importance h) || (((number_of keys.Bank == number_of g) && is_handle v.bank h) || ((number_of keys.User == number_of g) && is_handle v.user h)))
+    by_key : (g : Key) → (((number_of keys.Importance == number_of g) && is_handle v.importance h) ||
+        (((number_of keys.Bank == number_of g) && is_handle v.bank h) ||
+        ((number_of keys.User == number_of g) && is_handle v.user h)))
         ≡ is_handle (of_key g v) h
     by_key keys.Importance = or_false (is_handle v.importance h)
     by_key keys.Bank = or_false (is_handle v.bank h)
@@ -107,8 +119,10 @@ of_three g v h =
 -- all handles of a voucher
 pub places_hold : (v : Handles) (p : Place) → lets_hold (places v) p ≡ has_place v p
 places_hold v p =
-    list_any-append (λ q. same_place q p) (item keys.Importance v.importance) (item keys.Bank v.bank ++ item keys.User v.user)
-    ∙ (ap (λ b. lets_hold (item keys.Importance v.importance) p || b) (list_any-append (λ q. same_place q p) (item keys.Bank v.bank) (item keys.User v.user))
+    list_any-append (λ q. same_place q p) (item keys.Importance v.importance)
+    (item keys.Bank v.bank ++ item keys.User v.user)
+    ∙ (ap (λ b. lets_hold (item keys.Importance v.importance) p || b)
+    (list_any-append (λ q. same_place q p) (item keys.Bank v.bank) (item keys.User v.user))
     ∙ of_three p.key v p.handle)
 
 option_places_hold : (v : Option Handles) (p : Place) → lets_hold (option_places v) p ≡ option_has v p
@@ -116,10 +130,13 @@ option_places_hold None p = refl
 option_places_hold (Some v) p = places_hold v p
 
 -- a refusal changes no spot
-pub refuse_spot : (m : Machine) (t : ℕ) (f : Frame) (call : Call) (code : ℤ) (p : Place) → (tasked m t).frame ≡ Some f → spot (refuse m t f call code) p ≡ spot m p
+pub refuse_spot : (m : Machine) (t : ℕ) (f : Frame) (call : Call) (code : ℤ) (p : Place) → (tasked m t).frame ≡ Some f
+    → spot (refuse m t f call code) p ≡ spot m p
 refuse_spot m t f call code p e =
     spot_same m t f (closed left) p e
-    (closed_holds left p ∙ (list_any-append (λ q. same_place q p) f.lets (option_places f.forming) ∙ (ap (λ b. lets_hold f.lets p || b) (option_places_hold f.forming p) ∙ or_comm (lets_hold f.lets p) (option_has f.forming p))))
+    (closed_holds left p ∙ (list_any-append (λ q. same_place q p) f.lets (option_places f.forming)
+    ∙ (ap (λ b. lets_hold f.lets p || b) (option_places_hold f.forming p)
+    ∙ or_comm (lets_hold f.lets p) (option_has f.forming p))))
     (closed_expects left p) (closed_claims left p)
   where
     left : Frame
@@ -130,21 +147,26 @@ refuse_spot m t f call code p e =
 
 -- a frame that holds what it held, or what a name or a message holds
 pub spot_alike : (m : Machine) (t : ℕ) (f : Frame) (g : Option Frame) (p : Place) → (tasked m t).frame ≡ Some f
-    → (frame_holds g p || kept_named m t p) ≡ (frame_holds (Some f) p || kept_named m t p) → frame_expects g p ≡ frame_expects (Some f) p → frame_claims g p ≡ frame_claims (Some f) p
+    → (frame_holds g p || kept_named m t p) ≡ (frame_holds (Some f) p || kept_named m t p)
+    → frame_expects g p ≡ frame_expects (Some f) p → frame_claims g p ≡ frame_claims (Some f) p
     → spot (with_frame m t g) p ≡ spot m p
 spot_alike m t f g p e holds expects claims =
     spot_set m t g p (task_in_range m t f e)
-    ∙ (one_eq _ _ _ _ _ _ _ _ holds (ap (λ h. h || others_expect m t p) expects) (ap (λ cs. claims_before m t p ++ (cs ++ claims_behind m t p)) claims)
+    ∙ (one_eq _ _ _ _ _ _ _ _ holds (ap (λ h. h || others_expect m t p) expects)
+    (ap (λ cs. claims_before m t p ++ (cs ++ claims_behind m t p)) claims)
     ∙ sym (spot_of m t f p e))
 
 -- a voucher of a name is held by it
-pub named_holds : (names : List Named) (name : ℕ) (v : Handles) (p : Place) → handles_of names name ≡ Some v → has_place v p ≡ true → list_any (λ (n : Named). has_place n.voucher p) names ≡ true
+pub named_holds : (names : List Named) (name : ℕ) (v : Handles) (p : Place) → handles_of names name ≡ Some v
+    → has_place v p ≡ true → list_any (λ (n : Named). has_place n.voucher p) names ≡ true
 named_holds [] name v p e h = cc
 named_holds (n ∷ names) name v p e h =
-    cases_bool (n.name == name) ((has_place n.voucher p || list_any (λ (n : Named). has_place n.voucher p) names) ≡ true)
+    cases_bool (n.name == name) ((has_place n.voucher p || list_any (λ (n : Named). has_place n.voucher p) names)
+    ≡ true)
     (λ here. let k : Some n.voucher ≡ Some v = rw here at e in rw (ap (λ w. option_has w p) k, h) refl)
     (λ other. let k : handles_of names name ≡ Some v = rw other at e in
-    let i : list_any (λ (n : Named). has_place n.voucher p) names ≡ true = named_holds names name v p k h in rw i (or_true (has_place n.voucher p)))
+    let i : list_any (λ (n : Named). has_place n.voucher p) names ≡ true =
+    named_holds names name v p k h in rw i (or_true (has_place n.voucher p)))
   where
     or_true : (a : Bool) → (a || true) ≡ true
     or_true a = grind arith
@@ -156,26 +178,33 @@ HoldsAs p n w (Err code) = Unit {0}
 
 -- all changes of keys whose new handles are held already
 abbrev Known : Place → Bool → (Key → Option (Option ℕ)) → Type 0
-Known p n f = (k : Key) (y : Option ℕ) → f k ≡ Some y → ((number_of k == number_of p.key) && is_handle y p.handle) ≡ true → n ≡ true
+Known p n f = (k : Key) (y : Option ℕ) → f k ≡ Some y → ((number_of k == number_of p.key) && is_handle y p.handle)
+    ≡ true → n ≡ true
 
-changed_at_holds : (f : Key → Option (Option ℕ)) (k : Option Key) (w : Worked) (p : Place) (n : Bool) → Known p n f → HoldsAs p n w (changed_at f k w)
+changed_at_holds : (f : Key → Option (Option ℕ)) (k : Option Key) (w : Worked) (p : Place) (n : Bool) → Known p n f
+    → HoldsAs p n w (changed_at f k w)
 changed_at_holds f None w p n known = tt
 changed_at_holds f (Some k) w p n known = changed_holds k (f k) w p n (known k)
 
-if_holds : (p : Place) (n : Bool) (w : Worked) (b : Bool) (x y : Result Worked ℤ) → HoldsAs p n w x → HoldsAs p n w y → HoldsAs p n w (if b then x else y)
+if_holds : (p : Place) (n : Bool) (w : Worked) (b : Bool) (x y : Result Worked ℤ) → HoldsAs p n w x → HoldsAs p n w y
+    → HoldsAs p n w (if b then x else y)
 if_holds p n w true x y g h = g
 if_holds p n w false x y g h = h
 
-changed_keys_holds : (f : Key → Option (Option ℕ)) (key : ℕ) (w : Worked) (p : Place) (n : Bool) → Known p n f → HoldsAs p n w (changed_keys f key w)
+changed_keys_holds : (f : Key → Option (Option ℕ)) (key : ℕ) (w : Worked) (p : Place) (n : Bool) → Known p n f
+    → HoldsAs p n w (changed_keys f key w)
 changed_keys_holds f key w p n known =
     if_holds p n w (key == 4294967295) _ _
-    (changed_holds keys.User (f keys.User) _ p n (known keys.User) ∙ (changed_holds keys.Bank (f keys.Bank) _ p n (known keys.Bank) ∙ changed_holds keys.Importance (f keys.Importance) w p n (known keys.Importance)))
+    (changed_holds keys.User (f keys.User) _ p n (known keys.User)
+    ∙ (changed_holds keys.Bank (f keys.Bank) _ p n (known keys.Bank)
+    ∙ changed_holds keys.Importance (f keys.Importance) w p n (known keys.Importance)))
     (changed_at_holds f (key_of key) w p n known)
 
 none_new : (a : Bool) (y : Option ℕ) (h : ℕ) (n : Bool) → None ≡ y → (a && is_handle y h) ≡ true → n ≡ true
 none_new a y h n e g = let k : (a && false) ≡ true = subst (λ z. (a && is_handle z h) ≡ true) (sym e) g in grind arith
 
-removes_if : (b : Bool) (k : Key) (y : Option ℕ) (p : Place) (n : Bool) → (if b then Some None else None) ≡ Some y → ((number_of k == number_of p.key) && is_handle y p.handle) ≡ true → n ≡ true
+removes_if : (b : Bool) (k : Key) (y : Option ℕ) (p : Place) (n : Bool) → (if b then Some None else None) ≡ Some y
+    → ((number_of k == number_of p.key) && is_handle y p.handle) ≡ true → n ≡ true
 removes_if true k y p n e h = let i : None ≡ y = cc in none_new (number_of k == number_of p.key) y p.handle n i h
 removes_if false k y p n e h = cc
 
@@ -186,17 +215,22 @@ removes_known (Some v) map p n k y e h = removes_if (same_handle (of_key k v) (o
 right_part : (a b : Bool) → (a && b) ≡ true → b ≡ true
 right_part a b e = grind arith
 
-copies_known : (v map : Handles) (p : Place) (n : Bool) → (has_place v p ≡ true → n ≡ true) → Known p n (copies (Some v) map)
+copies_known : (v map : Handles) (p : Place) (n : Bool) → (has_place v p ≡ true → n ≡ true)
+    → Known p n (copies (Some v) map)
 copies_known v map p n held k y e h =
     let i : of_key k v ≡ y = cc in
     held (right_part (number_of k == number_of p.key) (has_place v p)
-    (sym (same_key_handle k p.key v p.handle) ∙ subst (λ z. ((number_of k == number_of p.key) && is_handle z p.handle) ≡ true) (sym i) h))
+    (sym (same_key_handle k p.key v p.handle) ∙ subst (λ z. ((number_of k == number_of p.key) && is_handle z p.handle)
+    ≡ true) (sym i) h))
 
-copied_holds : (previous : Option Handles) (key : ℕ) (w : Worked) (p : Place) (n : Bool) → (option_has previous p ≡ true → n ≡ true) → HoldsAs p n w (copied previous key w)
+copied_holds : (previous : Option Handles) (key : ℕ) (w : Worked) (p : Place) (n : Bool)
+    → (option_has previous p ≡ true → n ≡ true) → HoldsAs p n w (copied previous key w)
 copied_holds None key w p n held = refl
-copied_holds (Some v) key w p n held = changed_keys_holds (copies (Some v) w.forming) key w p n (copies_known v w.forming p n held)
+copied_holds (Some v) key w p n held = changed_keys_holds (copies (Some v) w.forming) key w p n
+    (copies_known v w.forming p n held)
 
-worked_as : (r : Recipe) (previous : Option Handles) (w : Worked) (p : Place) (n : Bool) → (option_has previous p ≡ true → n ≡ true) → HoldsAs p n w (worked r previous w)
+worked_as : (r : Recipe) (previous : Option Handles) (w : Worked) (p : Place) (n : Bool)
+    → (option_has previous p ≡ true → n ≡ true) → HoldsAs p n w (worked r previous w)
 worked_as r previous w p n held =
     if_holds p n w ((r.command == 3) || ((r.command == 4) || (r.command == 5))) _ _ tt
     (if_holds p n w ((r.command == 0) || ((r.command == 1) || (r.command == 2))) _ _
@@ -206,23 +240,27 @@ worked_as r previous w p n held =
     (changed_keys_holds (removes previous w.forming) r.key w p n (removes_known previous w.forming p n)))))
     tt)
 
-with_as : (r : Recipe) (previous : Option Handles) (w : Worked) (p : Place) (n : Bool) → (option_has previous p ≡ true → n ≡ true) → HoldsAs p n w (worked_with r previous w)
+with_as : (r : Recipe) (previous : Option Handles) (w : Worked) (p : Place) (n : Bool)
+    → (option_has previous p ≡ true → n ≡ true) → HoldsAs p n w (worked_with r previous w)
 with_as r None w p n held = tt
 with_as r (Some v) w p n held = worked_as r (Some v) w p n held
 
 absurd_false : (n : Bool) → false ≡ true → n ≡ true
 absurd_false n e = cc
 
-option_held : (names : List Named) (name : ℕ) (p : Place) (v : Option Handles) → handles_of names name ≡ v → option_has v p ≡ true → list_any (λ (n : Named). has_place n.voucher p) names ≡ true
+option_held : (names : List Named) (name : ℕ) (p : Place) (v : Option Handles) → handles_of names name ≡ v
+    → option_has v p ≡ true → list_any (λ (n : Named). has_place n.voucher p) names ≡ true
 option_held names name p None e h = cc
 option_held names name p (Some v) e h = named_holds names name v p e h
 
-first_as : (names : List Named) (first : First) (map : Handles) (p : Place) (n : Bool) → (list_any (λ (n : Named). has_place n.voucher p) names ≡ true → n ≡ true)
+first_as : (names : List Named) (first : First) (map : Handles) (p : Place) (n : Bool)
+    → (list_any (λ (n : Named). has_place n.voucher p) names ≡ true → n ≡ true)
     → HoldsAs p n (record { forming = map; left = [] }) (work_first names first map)
 first_as names (One r rest) map p n held =
     if_holds p n (record { forming = map; left = [] }) (r.previous == 0) _ _
     (worked_as r None (record { forming = map; left = [] }) p n (absurd_false n))
-    (with_as r (handles_of names r.previous) (record { forming = map; left = [] }) p n (λ h. held (option_held names r.previous p (handles_of names r.previous) refl h)))
+    (with_as r (handles_of names r.previous) (record { forming = map; left = [] }) p n
+    (λ h. held (option_held names r.previous p (handles_of names r.previous) refl h)))
 first_as names First.End map p n held = tt
 first_as names (First.HeaderCut left) map p n held = tt
 first_as names (First.ContentCut wanted left) map p n held = tt
@@ -234,16 +272,24 @@ join_lets : (g a x y n : Bool) → ((g || x) || n) ≡ ((y || false) || n) → (
 join_lets g a x y n e = grind arith
 
 -- Work changes no spot
-pub work_spot : (m : Machine) (t : ℕ) (f : Frame) (v : Handles) (call : Call) (size : ℕ) (first : First) (r : Result Worked ℤ) (p : Place) → (tasked m t).frame ≡ Some f
+pub work_spot : (m : Machine) (t : ℕ) (f : Frame) (v : Handles) (call : Call) (size : ℕ) (first : First)
+    (r : Result Worked ℤ) (p : Place) → (tasked m t).frame ≡ Some f
     → f.forming ≡ Some v → r ≡ work_first (tasked m t).names first v → spot (work_done m t f call size r) p ≡ spot m p
 work_spot m t f v call size first (Err code) p e forming eq = refuse_spot m t f call code p e
 work_spot m t f v call size first (Ok w) p e forming eq =
-    spot_alike m t f (Some (record f { forming = Some w.forming; at_byte = f.at_byte + size; lets = f.lets ++ w.left })) p e
+    spot_alike m t f (Some (record f {
+      forming = Some w.forming;
+      at_byte = f.at_byte + size;
+      lets = f.lets ++ w.left;
+    })) p e
     (ap (λ b. (has_place w.forming p || b) || kept_named m t p) (list_any-append (λ q. same_place q p) f.lets w.left)
-    ∙ (join_lets (has_place w.forming p) (lets_hold f.lets p) (lets_hold w.left p) (has_place v p) (kept_named m t p) held
+    ∙ (join_lets (has_place w.forming p) (lets_hold f.lets p) (lets_hold w.left p) (has_place v p)
+    (kept_named m t p) held
     ∙ sym (ap (λ x. (option_has x p || lets_hold f.lets p) || kept_named m t p) forming)))
     refl refl
   where
-    held : ((has_place w.forming p || lets_hold w.left p) || kept_named m t p) ≡ ((has_place v p || false) || kept_named m t p)
+    held : ((has_place w.forming p || lets_hold w.left p) || kept_named m t p) ≡
+        ((has_place v p || false) || kept_named m t p)
     held = subst (λ (x : Result Worked ℤ). HoldsAs p (kept_named m t p) (record { forming = v; left = [] }) x) (sym eq)
-        (first_as (tasked m t).names first v p (kept_named m t p) (λ h. or_three (names_hold m t p) (queue_holds m t p) (others_hold m t p) h))
+        (first_as (tasked m t).names first v p (kept_named m t p)
+        (λ h. or_three (names_hold m t p) (queue_holds m t p) (others_hold m t p) h))

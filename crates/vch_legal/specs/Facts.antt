@@ -56,7 +56,8 @@ abbrev pub back_live : Spot → Claim → Bool
 back_live s c = implies c.back (s.live && implies (not (asked c)) c.raced)
 
 abbrev pub claim_fits : Spot → Claim → Bool
-claim_fits s c = unheld s c && (unexpected s c && (unasked_live s c && (raced_expected s c && (back_live s c && not s.fixed))))
+claim_fits s c = unheld s c && (unexpected s c && (unasked_live s c &&
+    (raced_expected s c && (back_live s c && not s.fixed))))
 
 -- a claim for which a live value stays
 abbrev pub keeps : Claim → Bool
@@ -93,7 +94,8 @@ OptionFits (Some f) = FrameFits f
 
 -- the sends that are under way are to tasks of the scenario
 abbrev pub SendsToTasks : Scenario → Machine → Type 0
-SendsToTasks sc m = (t : ℕ) (f : Frame) (to : ℕ) (moving : Bool) (name id : ℕ) → is_task sc t ≡ true → (tasked m t).frame ≡ Some f
+SendsToTasks sc m = (t : ℕ) (f : Frame) (to : ℕ) (moving : Bool) (name id : ℕ) → is_task sc t ≡ true
+    → (tasked m t).frame ≡ Some f
     → current sc m t ≡ Some (calls.Send to moving name id) → is_task sc to ≡ true
 
 abbrev pub bit : Bool → ℕ
@@ -127,12 +129,14 @@ ValuesFit sc live = (p : Place) (a : Living) → living_at live p ≡ Some a →
 pub record NumbersFit (n : ℕ) (live : List Living) : Type 0 where
   pub within : (p : Place) (a : Living) → living_at live p ≡ Some a → a.made ≤ n
   pub counted : (p : Place) (a : Living) → living_at live p ≡ Some a → same_place p default_place ≡ false → 1 ≤ a.made
-  pub once : (p q : Place) (a b : Living) → living_at live p ≡ Some a → living_at live q ≡ Some b → a.made ≡ b.made → p ≡ q
+  pub once : (p q : Place) (a b : Living) → living_at live p ≡ Some a → living_at live q ≡ Some b → a.made ≡ b.made
+      → p ≡ q
 
 -- what a handle has still to be paid for by a question: a claim that was not asked, and one more where the handle is held
 -- or has a claim that is back. Default's is never asked for
 abbrev pub burden : Spot → ℕ
-burden s = if s.fixed then 0 else times (λ c. not (asked c)) s.claims + bit (s.held || list_any (λ (c : Claim). c.back) s.claims)
+burden s = if s.fixed then 0 else times (λ c. not (asked c)) s.claims + bit
+    (s.held || list_any (λ (c : Claim). c.back) s.claims)
 
 -- a sum over the places of live values
 abbrev pub total : (Place → ℕ) → List Living → ℕ

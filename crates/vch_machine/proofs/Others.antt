@@ -309,10 +309,14 @@ pub event_leaves : (u t : ℕ) (sc : Scenario) (want : Bool) (m : Machine) → u
 unfolding event
 event_leaves u t sc want m apart = may_either u m _ _ (is_task sc t) (of_leaves u t sc want m (tasked m t).frame (next_kind sc m t) apart) tt
 
--- an event of one task never changes which event of another is next
-pub others_next : (sc : Scenario) (want : Bool) (t u : ℕ) (m n : Machine) → u - 1 ≢ t - 1 → event sc want m t ≡ Some n → next_kind sc n u ≡ next_kind sc m u
-others_next sc want t u m n apart e = same_next sc u m n (of_some (event sc want m t) e (event_leaves u t sc want m apart))
+-- an event of one task leaves every other as it was
+pub leaves_of : (sc : Scenario) (want : Bool) (t u : ℕ) (m n : Machine) → u - 1 ≢ t - 1 → event sc want m t ≡ Some n → Leaves u m n
+leaves_of sc want t u m n apart e = of_some (event sc want m t) e (event_leaves u t sc want m apart)
   where
     of_some : (o : Option Machine) → o ≡ Some n → MayLeave u m o → Leaves u m n
     of_some None k l = cc
     of_some (Some x) k l = let g : x ≡ n = cc in subst (λ (y : Machine). Leaves u m y) g l
+
+-- an event of one task never changes which event of another is next
+pub others_next : (sc : Scenario) (want : Bool) (t u : ℕ) (m n : Machine) → u - 1 ≢ t - 1 → event sc want m t ≡ Some n → next_kind sc n u ≡ next_kind sc m u
+others_next sc want t u m n apart e = same_next sc u m n (leaves_of sc want t u m n apart e)

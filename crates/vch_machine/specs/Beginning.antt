@@ -67,21 +67,28 @@ is_full m to = not (nat_lt (length (tasked m to).queue) 5)
 -- a recv of no message, or of one without a voucher, is answered; else importance and bank are to be asked
 abbrev pub begin_recv : Machine → ℕ → Call → Reply → Option Handles → Machine
 begin_recv m t call reply None = replied (dequeued m t (tasked m t).queue) t call reply
-begin_recv m t call reply (Some v) = with_frame m t (Some (fresh_frame v (key_if keys.Importance v.importance ++ key_if keys.Bank v.bank)))
+begin_recv m t call reply (Some v) = with_frame m t (Some (fresh_frame v
+    (key_if keys.Importance v.importance ++ key_if keys.Bank v.bank)))
 
 -- a send to no task, of no voucher or of a name that is not there is answered; else the bank is to be asked
 abbrev pub begin_send : Scenario → Machine → ℕ → Call → ℕ → ℕ → ℕ → Reply → Option Handles → Machine
 begin_send sc m t call to name id reply v =
     if not (is_task sc to) then replied m t call reply
-    else if name == 0 then replied (if is_full m to then m else enqueued m to (record { sender = t; id = id; voucher = None })) t call reply
-    else elim v [ None ↦ replied m t call reply | Some w ↦ with_frame m t (Some (fresh_frame w (key_if keys.Bank w.bank))) ]
+    else if name == 0 then replied (if is_full m to then m else enqueued m to
+    (record { sender = t; id = id; voucher = None })) t call reply
+    else elim v [
+      | None ↦ replied m t call reply
+      | Some w ↦ with_frame m t
+          (Some (fresh_frame w (key_if keys.Bank w.bank)))
+    ]
 
 -- by command; m is the state in which the call is counted as begun
 abbrev pub begin_call : Scenario → Bool → Machine → ℕ → Call → Reply → Machine
 begin_call sc want m t (calls.Create bytes) reply =
     if (length bytes == 0) || nat_lt 5120 (length bytes) then replied m t (calls.Create bytes) reply
     else with_frame m t (Some (fresh_frame no_handles []))
-begin_call sc want m t (calls.GiveUp name) reply = dropped m t (calls.GiveUp name) reply (handles_of (tasked m t).names name) name
+begin_call sc want m t (calls.GiveUp name) reply = dropped m t (calls.GiveUp name) reply
+    (handles_of (tasked m t).names name) name
 begin_call sc want m t (calls.Extract name key) reply = replied m t (calls.Extract name key) (or_want want reply)
 begin_call sc want m t (calls.Recipes name) reply = replied m t (calls.Recipes name) (or_want want reply)
 begin_call sc want m t (calls.Send to moving name id) reply =
@@ -92,7 +99,8 @@ begin_call sc want m t call reply = replied m t call reply
 -- a call that may be none
 abbrev pub begin_line : Scenario → Bool → Machine → ℕ → Option Call → Option Machine
 begin_line sc want m t None = None
-begin_line sc want m t (Some call) = Some (begin_call sc want (with_tasked m t (begun_one (tasked m t))) t call (store_reply sc m t call))
+begin_line sc want m t (Some call) = Some (begin_call sc want (with_tasked m t (begun_one (tasked m t))) t call
+    (store_reply sc m t call))
 
 -- the event, with want of memory or without
 abbrev pub do_begin : Scenario → Bool → Machine → ℕ → Option Machine

@@ -72,4 +72,5 @@ ready sc m (t ∷ ts) = if is_some (next_kind sc m t) then t ∷ ready sc m ts e
 -- the end of a phase, where no task has a next event and a phase is left
 unfoldable pub phase_event : Scenario → Machine → Option Machine
 phase_event sc m =
-    if is_empty (ready sc m (numbers (length sc.flags))) && nat_lt (phases_in m.past) (length sc.phases) then Some (noted m entries.Phase) else None
+    if is_empty (ready sc m (numbers (length sc.flags))) && nat_lt (phases_in m.past) (length sc.phases) then Some
+    (noted m entries.Phase) else None

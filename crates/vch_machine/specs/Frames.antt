@@ -11,7 +11,8 @@ use Rattle.vch_model.specs.declared.entry.Entry.TheVariants as entries
 
 -- a frame that has nothing left to do is gone
 abbrev pub closed : Frame → Option Frame
-closed f = if is_some f.forming || (is_some f.receipt || (is_some f.claim || not (is_empty f.lets))) then Some f else None
+closed f = if is_some f.forming || (is_some f.receipt || (is_some f.claim || not (is_empty f.lets))) then Some f else
+    None
 
 -- with another frame of a task, or none
 abbrev pub with_frame : Machine → ℕ → Option Frame → Machine
@@ -32,4 +33,8 @@ replied m t call reply = noted m (entries.Call t (tasked m t).begun (word_of cal
 -- a call with a frame is refused: what it formed is let go
 abbrev pub refuse : Machine → ℕ → Frame → Call → ℤ → Machine
 refuse m t f call code =
-    replied (with_frame m t (closed (record f { forming = None; keys = []; lets = f.lets ++ option_places f.forming }))) t call (refused code)
+    replied (with_frame m t (closed (record f {
+      forming = None;
+      keys = [];
+      lets = f.lets ++ option_places f.forming;
+    }))) t call (refused code)

@@ -62,7 +62,8 @@ one_ask n = record n { asks = n.asks + 1 }
 -- the event Ask: a claim that is not raced is agreed, a raced one is refused
 abbrev pub do_ask : Machine → ℕ → Frame → Claim → Machine
 do_ask m t f c =
-    tallied one_ask (if c.raced then with_frame m t (with_answer f c false) else with_frame (released m c.place) t (with_answer f c true))
+    tallied one_ask (if c.raced then with_frame m t (with_answer f c false) else with_frame (released m c.place) t
+    (with_answer f c true))
 
 -- a claim that is back on a place that is not held begins anew, else it ends
 abbrev pub again : Machine → Claim → Option Claim

@@ -9,3 +9,4 @@ pub mod Placing
 pub mod Leaving
 pub mod Events
 pub mod Schedules
+pub mod Worked

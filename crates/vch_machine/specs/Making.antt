@@ -46,7 +46,11 @@ previous_of names map name = if name == 0 then map else or_map (handles_of names
 abbrev pub asked_record : List Living → List Named → ℕ → Handles → Recipe → Option Key → Option Asked
 asked_record live names t map r None = None
 asked_record live names t map r (Some k) =
-    Some (record { key = k; reply = answer_to k t r.command (value_at live k (of_key k (previous_of names map r.previous))) r.content })
+    Some (record {
+      key = k;
+      reply = answer_to k t r.command (value_at live k
+          (of_key k (previous_of names map r.previous))) r.content;
+    })
 
 -- what the first record of what is left of the bytes asks
 abbrev pub asked_first : List Living → List Named → ℕ → List Key → Handles → First → Option Asked
@@ -63,7 +67,8 @@ asked_transfer live g (k ∷ ks) map = Some (record { key = k; reply = Ok (mappe
 
 -- what a call asks
 abbrev pub asked_by : Scenario → Machine → ℕ → Frame → Handles → Call → Option Asked
-asked_by sc m t f v (calls.Create bytes) = asked_first m.live (tasked m t).names t f.keys v (first_of (drop f.at_byte bytes))
+asked_by sc m t f v (calls.Create bytes) = asked_first m.live (tasked m t).names t f.keys v
+    (first_of (drop f.at_byte bytes))
 asked_by sc m t f v (calls.Send to moving name id) = asked_transfer m.live (sent t) f.keys v
 asked_by sc m t f v calls.Recv = asked_transfer m.live (received_value sc t) f.keys v
 asked_by sc m t f v call = None
@@ -88,12 +93,20 @@ fresh_handle p = elim p.free [ [] ↦ p.used | h ∷ free ↦ h ]
 
 -- the handles of a key once that handle is taken
 abbrev pub fewer_free : Pool → Pool
-fewer_free p = elim p.free [ [] ↦ record { free = []; used = p.used + 1 } | h ∷ free ↦ record { free = free; used = p.used } ]
+fewer_free p = elim p.free [
+  | [] ↦ record { free = []; used = p.used + 1 }
+  | h ∷ free ↦ record { free = free; used = p.used }
+]
 
 -- a value is made live at a new handle, and a Made entry is appended
 abbrev pub minted : Machine → Key → Value → Machine
 minted m k x = record m {
-  live = m.live ++ record { place = record { key = k; handle = fresh_handle (of_key k m.pools) }; value = x; made = length m.past + 1 } ∷ [];
+  live = m.live ++ record {
+    place = record { key = k; handle = fresh_handle (of_key k m.pools) };
+    value = x;
+    made =
+        length m.past + 1;
+  } ∷ [];
   pools = with_key k (fewer_free (of_key k m.pools)) m.pools;
   past = entries.Made (number_of k) x ∷ m.past;
 }
@@ -134,7 +147,11 @@ made_at m t f k x None = given_receipt (minted m k x) t f (record { key = k; han
 abbrev pub make_done : Machine → ℕ → Frame → Handles → Call → Key → Result (Option Value) ℤ → Machine
 make_done m t f v call k (Err code) = refuse m t f call code
 make_done m t f v call k (Ok None) =
-    with_frame m t (Some (moved call (record f { forming = Some (with_key k None v); lets = f.lets ++ item k (of_key k v) })))
+    with_frame m t (Some (moved call (record f {
+      forming = Some (with_key k None v);
+      lets = f.lets ++ item k
+          (of_key k v);
+    })))
 make_done m t f v call k (Ok (Some x)) = made_at m t f k x (handle_of m.live k x)
 
 -- what is asked may be nothing
@@ -144,7 +161,8 @@ make_asked m t f v call (Some a) = Some (make_done m t f v call a.key a.reply)
 
 -- the event Make, with want of memory or without
 abbrev pub do_make : Scenario → Bool → Machine → ℕ → Frame → Handles → Call → Option Machine
-do_make sc want m t f v call = if want then Some (refuse m t f call (pos 6)) else make_asked m t f v call (asked_by sc m t f v call)
+do_make sc want m t f v call = if want then Some (refuse m t f call (pos 6)) else make_asked m t f v call
+    (asked_by sc m t f v call)
 
 -- one reference more was taken
 abbrev pub one_refer : Tally → Tally

@@ -43,7 +43,8 @@ one_more (n ∷ names) name = if n.name == name then record n { refs = n.refs + 
 abbrev pub one_less : List Named → ℕ → List Named
 one_less [] name = []
 one_less (n ∷ names) name =
-    if n.name == name then (if nat_lt 1 n.refs then record n { refs = n.refs - 1 } ∷ names else names) else n ∷ one_less names name
+    if n.name == name then (if nat_lt 1 n.refs then record n { refs = n.refs - 1 } ∷ names else names) else n ∷
+    one_less names name
 
 -- the name that a task gets for a voucher: the one it has, else the next
 abbrev pub name_for : Tasked → Option ℕ → ℕ
@@ -52,7 +53,11 @@ name_for x (Some name) = name
 
 -- the task with a name for the voucher: one user reference more on the name that has it, else a new name
 abbrev pub with_name : Tasked → Handles → Option ℕ → Tasked
-with_name x v None = record x { names = x.names ++ record { name = x.next; voucher = v; refs = 1 } ∷ []; next = x.next + 1 }
+with_name x v None = record x {
+  names = x.names ++ record { name = x.next; voucher = v; refs = 1 } ∷ [];
+  next = x.next
+      + 1;
+}
 with_name x v (Some name) = record x { names = one_more x.names name }
 
 -- the voucher of a message is this one
@@ -62,7 +67,8 @@ option_same (Some w) v = same_handles w v
 
 -- a name or a message of the task has the voucher
 abbrev pub task_knows : Handles → Tasked → Bool
-task_knows v x = list_any (λ (n : Named). same_handles n.voucher v) x.names || list_any (λ (q : Message). option_same q.voucher v) x.queue
+task_knows v x = list_any (λ (n : Named). same_handles n.voucher v) x.names || list_any
+    (λ (q : Message). option_same q.voucher v) x.queue
 
 -- a name or a message of some task has the voucher
 abbrev pub is_known : Machine → Handles → Bool

@@ -29,7 +29,11 @@ current sc m t = nth_call sc t (tasked m t).begun
 
 -- some voucher where the name is there, to ask only whether it is there
 abbrev pub known_name : List Named → ℕ → Option Voucher
-known_name names n = elim (handles_of names n) [ None ↦ None | Some v ↦ Some (record { importance = None; bank = None; user = None }) ]
+known_name names n = elim (handles_of names n) [
+  | None ↦ None
+  | Some v ↦ Some
+      (record { importance = None; bank = None; user = None })
+]
 
 -- the event of a create at its next record: a Make where the record asks a manager, else a Work; at the end a Place
 abbrev pub first_next : List Named → First → Kind

@@ -16,18 +16,21 @@ ended f lets = closed (record f { forming = None; keys = []; lets = f.lets ++ le
 -- the voucher gets a name of the task; its handles are let go where the voucher was there before
 abbrev pub place_create : Machine → ℕ → Frame → Handles → Call → Machine
 place_create m t f v call =
-    replied (with_frame (with_tasked m t (with_name (tasked m t) v (name_of (tasked m t).names v))) t (ended f (doubled m v))) t call
+    replied (with_frame (with_tasked m t (with_name (tasked m t) v (name_of (tasked m t).names v))) t
+    (ended f (doubled m v))) t call
     (replies.Created (name_for (tasked m t) (name_of (tasked m t).names v)))
 
 -- a send that moves its name takes one user reference of it
 abbrev pub moved_name : Machine → ℕ → Bool → ℕ → Machine
-moved_name m t moving name = if moving then with_tasked m t (record (tasked m t) { names = one_less (tasked m t).names name }) else m
+moved_name m t moving name = if moving then with_tasked m t (record
+    (tasked m t) { names = one_less (tasked m t).names name }) else m
 
 -- the voucher is queued in a message; the handles of the named voucher are let go where no one has it any more
 abbrev pub place_send : Machine → ℕ → Frame → Handles → Call → ℕ → Bool → ℕ → ℕ → Machine
 place_send m t f v call to moving name id =
     let mid = moved_name (enqueued m to (record { sender = t; id = id; voucher = Some v })) t moving name in
-    replied (with_frame mid t (ended f (doubled m v ++ orphaned mid (handles_of (tasked m t).names name)))) t call replies.Done
+    replied (with_frame mid t (ended f (doubled m v ++ orphaned mid (handles_of (tasked m t).names name)))) t call
+    replies.Done
 
 -- the first message is taken and the voucher gets a name; the handles of the message's voucher are let go where no one has
 -- it any more
@@ -47,5 +50,6 @@ do_place want m t f v (calls.Send to moving name id) =
     if is_full m to then Some (refuse m t f (calls.Send to moving name id) (pos 268435460))
     else if want then Some (refuse m t f (calls.Send to moving name id) (pos 6))
     else Some (place_send m t f v (calls.Send to moving name id) to moving name id)
-do_place want m t f v calls.Recv = if want then Some (refuse m t f calls.Recv (pos 6)) else Some (place_recv m t f v calls.Recv (tasked m t).queue)
+do_place want m t f v calls.Recv = if want then Some (refuse m t f calls.Recv (pos 6)) else Some
+    (place_recv m t f v calls.Recv (tasked m t).queue)
 do_place want m t f v call = None

@@ -34,7 +34,8 @@ lowest_open m (t ∷ ts) = if is_some (tasked m t).frame then Some t else lowest
 abbrev pub first_waiting : Scenario → Machine → List ℕ → List Line → Option ℕ
 first_waiting sc m seen [] = None
 first_waiting sc m seen (line ∷ lines) =
-    if nat_lt (count_by (λ t. t == line.task) seen + lines_until sc (phases_in m.past) line.task) (tasked m line.task).begun
+    if nat_lt (count_by (λ t. t == line.task) seen + lines_until sc (phases_in m.past) line.task)
+    (tasked m line.task).begun
     then first_waiting sc m (line.task ∷ seen) lines else Some line.task
 
 abbrev pub turn_task : Scenario → Machine → Option ℕ → Option ℕ

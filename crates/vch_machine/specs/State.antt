@@ -131,7 +131,12 @@ no_tally = record { claims = 0; refers = 0; asks = 0 }
 abbrev pub start : Scenario → Machine
 start sc = record {
   live = default_living ∷ [];
-  pools = record { importance = record { free = []; used = 0 }; bank = record { free = []; used = 1 }; user = record { free = []; used = 0 } };
+  pools = record {
+    importance = record { free = []; used = 0 };
+    bank = record { free = []; used = 1 };
+    user = record
+        { free = []; used = 0 };
+  };
   tasks = map (λ _. idle) sc.flags;
   past = [];
   tally = no_tally;
@@ -158,7 +163,8 @@ without_place (l ∷ live) p = if same_place l.place p then without_place live p
 -- the handle of a value at a key
 abbrev pub handle_of : List Living → Key → Value → Option ℕ
 handle_of [] k x = None
-handle_of (l ∷ live) k x = if (number_of l.place.key == number_of k) && equal_values l.value x then Some l.place.handle else handle_of live k x
+handle_of (l ∷ live) k x = if (number_of l.place.key == number_of k) && equal_values l.value x then Some
+    l.place.handle else handle_of live k x
 
 -- the value that was found
 abbrev pub value_of : Option Living → Option Value

@@ -40,7 +40,8 @@ changed_at f (Some k) w = Ok (changed k (f k) w)
 -- a change at one key, or at all in rising order
 abbrev pub changed_keys : (Key → Option (Option ℕ)) → ℕ → Worked → Result Worked ℤ
 changed_keys f key w =
-    if key == 4294967295 then Ok (changed keys.User (f keys.User) (changed keys.Bank (f keys.Bank) (changed keys.Importance (f keys.Importance) w)))
+    if key == 4294967295 then Ok (changed keys.User (f keys.User)
+    (changed keys.Bank (f keys.Bank) (changed keys.Importance (f keys.Importance) w)))
     else changed_at f (key_of key) w
 
 -- COPY, which does nothing without a previous voucher
@@ -97,4 +98,5 @@ first_at f call = first_of (drop f.at_byte (bytes_of call))
 
 -- the event
 abbrev pub do_work : Machine → ℕ → Frame → Handles → Call → Machine
-do_work m t f v call = work_done m t f call (size_of (first_at f call)) (work_first (tasked m t).names (first_at f call) v)
+do_work m t f v call = work_done m t f call (size_of (first_at f call))
+    (work_first (tasked m t).names (first_at f call) v)

@@ -25,9 +25,17 @@ ghost use Rattle.vch_model.specs.declared.lists.Scenario.{Scenario};
 ghost use Rattle.vch_machine.specs.State.{Machine};
 ghost use Rattle.vch_machine.specs.Events.{event};
 ghost use Rattle.vch_machine.specs.Next.{next_kind};
+ghost use Rattle.vch_machine.specs.Worked.{Worked};
 
 /// A law: an event of one task never changes which event of another is next.
 #[tactic(auto, using(crate::proofs::Others::others_next))]
 pub fn others_next()
-    ensures { (sc : Scenario) (want : Bool) (t u : ℕ) (m n : Machine) → u - 1 ≢ t - 1 → event sc want m t ≡ Some n → next_kind sc n u ≡ next_kind sc m u }
+    ensures { (sc : Scenario) (want : Bool) (t u : ℕ) (m n : Machine) → u - 1 ≢ t - 1
+        → event sc want m t ≡ Some n → next_kind sc n u ≡ next_kind sc m u }
+{}
+
+/// A law that computes: the worked scenarios, by their schedules, give the entries that are written beside them.
+#[tactic(auto, using(crate::proofs::Rows::worked))]
+pub fn worked_scenarios()
+    ensures { Worked }
 {}

@@ -73,18 +73,25 @@ entry_text entries.Phase = codes "phase"
 abbrev pub entry_line : Entry → List ℕ
 entry_line entry = entry_text entry ++ newline
 
--- the line of a task: its ledger, and the assertions that it holds and that are out from it
+-- a task: its ledger, and the assertions that it holds and that are out from it, without the end of the line
+abbrev pub total_text : ℕ → Total → List ℕ
+total_text t total =
+    codes "task" ++ spaced t ++ codes " ledger" ++ spaced total.ledger ++ codes " held" ++ spaced total.held ++ codes " out" ++ spaced total.out
+
 abbrev pub total_line : ℕ → Total → List ℕ
-total_line t total =
-    codes "task" ++ spaced t ++ codes " ledger" ++ spaced total.ledger ++ codes " held" ++ spaced total.held ++ codes " out" ++ spaced total.out ++ newline
+total_line t total = total_text t total ++ newline
 
 -- the lines of the tasks from this number on
 abbrev pub total_lines : ℕ → List Total → List ℕ
 total_lines t [] = []
 total_lines t (total ∷ totals) = total_line t total ++ total_lines (t + 1) totals
 
+-- how many vouchers and values live, without the end of the line
+abbrev pub counts_text : ℕ → ℕ → List ℕ
+counts_text vouchers values = codes "vouchers" ++ spaced vouchers ++ codes " values" ++ spaced values
+
 abbrev pub last_lines : ℕ → ℕ → List ℕ
-last_lines vouchers values = codes "vouchers" ++ spaced vouchers ++ codes " values" ++ spaced values ++ newline ++ codes "end" ++ newline
+last_lines vouchers values = counts_text vouchers values ++ newline ++ codes "end" ++ newline
 
 -- the text of a report: entries with the oldest first, a total for each task, and how many vouchers and values live
 unfoldable pub report_text : List Entry → List Total → ℕ → ℕ → List ℕ

@@ -1,4 +1,4 @@
-ghost use Rattle.std.specs.Prelude.{◌≡◌, ◌≤◌, ◌<◌, ◌+◌, ◌-◌, [], ◌∷◌, ◌++◌, length, OnOk, OnErr, slice_get, Some, drop, take, reverse, map};
+ghost use Rattle.std.specs.Prelude.{◌≡◌, ◌≤◌, ◌<◌, ◌+◌, ◌-◌, [], ◌∷◌, ◌++◌, length, OnOk, OnErr, slice_get, Some};
 ghost use Rattle.vch_model.specs.Rows.{with_line};
 
 use crate::{Line, Total};
@@ -6,33 +6,32 @@ use std::alloc::Global;
 use std::marker::Model;
 use vch_base::{Flags, NoMemory};
 
-/// The flags of the tasks 1, 2, 3 and so on. A push takes constant time on the average; its one error is want of memory.
+/// Items in their order, seen as a list.
 #[derive(Drop)]
-pub struct FlagList {
-    items: Vec<Flags>,
+pub struct Items<T: Drop> {
+    items: Vec<T>,
 }
 
-impl Model for FlagList {
+impl<T: Drop> Model for Items<T> {
     ghost use Rattle.std.specs.Prelude.{List};
-    ghost use Rattle.vch_base.specs.declared.flags.Flags.{Flags};
 
-    ghost Value = { List Flags };
+    ghost Value = { List T };
 
     ghost view = { λ l. l.items.items };
 }
 
-impl FlagList {
+impl<T: Drop> Items<T> {
     /// The empty list. It takes no memory.
-    pub fn new(alloc: Global) -> FlagList
+    pub fn new(alloc: Global) -> Items<T>
         ensures { result ≡ [] }
     {
-        FlagList {
+        Items {
             items: Vec::new(alloc),
         }
     }
 
-    /// Appends an item.
-    pub fn push(&mut self, item: Flags) -> Result<(), NoMemory>
+    /// Appends an item, in constant time on the average. The one error is want of memory.
+    pub fn push(&mut self, item: T) -> Result<(), NoMemory>
         ensures ok { OnOk result (self.new ≡ self.old ++ item ∷ []) }
         ensures err { OnErr result (self.new ≡ self.old) }
     {
@@ -48,113 +47,27 @@ impl FlagList {
     }
 
     /// The item at a place, counted from 0.
-    pub fn at(&self, i: usize) -> &Flags
+    pub fn at(&self, i: usize) -> &T
         requires { i < length self.now }
         ensures { slice_get self.now i ≡ Some result.now }
     {
         &self.items[i]
     }
 }
+
+/// The flags of the tasks 1, 2, 3 and so on.
+pub type FlagList = Items<Flags>;
 
 /// The lines of one phase, in their order.
-#[derive(Drop)]
-pub struct LineList {
-    items: Vec<Line>,
-}
-
-impl Model for LineList {
-    ghost use Rattle.std.specs.Prelude.{List};
-    ghost use Rattle.vch_model.specs.declared.call.Line.{Line};
-
-    ghost Value = { List Line };
-
-    ghost view = { λ l. l.items.items };
-}
-
-impl LineList {
-    /// The empty list. It takes no memory.
-    pub fn new(alloc: Global) -> LineList
-        ensures { result ≡ [] }
-    {
-        LineList {
-            items: Vec::new(alloc),
-        }
-    }
-
-    /// Appends an item.
-    pub fn push(&mut self, item: Line) -> Result<(), NoMemory>
-        ensures ok { OnOk result (self.new ≡ self.old ++ item ∷ []) }
-        ensures err { OnErr result (self.new ≡ self.old) }
-    {
-        self.items.push(item)?;
-        Ok(())
-    }
-
-    /// How many items it has.
-    pub fn len(&self) -> usize
-        ensures { result ≡ length self.now }
-    {
-        self.items.len()
-    }
-
-    /// The item at a place, counted from 0.
-    pub fn at(&self, i: usize) -> &Line
-        requires { i < length self.now }
-        ensures { slice_get self.now i ≡ Some result.now }
-    {
-        &self.items[i]
-    }
-}
+pub type LineList = Items<Line>;
 
 /// The phases of a scenario, each with its lines.
-#[derive(Drop)]
-pub struct PhaseList {
-    items: Vec<LineList>,
-}
+pub type PhaseList = Items<LineList>;
 
-impl Model for PhaseList {
-    ghost use Rattle.std.specs.Prelude.{List};
-    ghost use Rattle.vch_model.specs.declared.call.Line.{Line};
-
-    ghost Value = { List (List Line) };
-
-    ghost view = { λ l. l.items.items };
-}
+/// The totals of the tasks 1, 2, 3 and so on.
+pub type TotalList = Items<Total>;
 
 impl PhaseList {
-    /// The empty list. It takes no memory.
-    pub fn new(alloc: Global) -> PhaseList
-        ensures { result ≡ [] }
-    {
-        PhaseList {
-            items: Vec::new(alloc),
-        }
-    }
-
-    /// Appends an item.
-    pub fn push(&mut self, item: LineList) -> Result<(), NoMemory>
-        ensures ok { OnOk result (self.new ≡ self.old ++ item ∷ []) }
-        ensures err { OnErr result (self.new ≡ self.old) }
-    {
-        self.items.push(item)?;
-        Ok(())
-    }
-
-    /// How many items it has.
-    pub fn len(&self) -> usize
-        ensures { result ≡ length self.now }
-    {
-        self.items.len()
-    }
-
-    /// The item at a place, counted from 0.
-    pub fn at(&self, i: usize) -> &LineList
-        requires { i < length self.now }
-        ensures { slice_get self.now i ≡ Some result.now }
-    {
-        &self.items[i]
-    }
-
     /// Appends a line to the last phase. The one error is want of memory.
     pub fn add_line(&mut self, line: Line) -> Result<(), NoMemory>
         requires { 1 ≤ length self.old }
@@ -163,56 +76,6 @@ impl PhaseList {
     {
         let last = self.items.len() - 1;
         self.items[last].push(line)
-    }
-}
-
-/// The totals of the tasks 1, 2, 3 and so on.
-#[derive(Drop)]
-pub struct TotalList {
-    items: Vec<Total>,
-}
-
-impl Model for TotalList {
-    ghost use Rattle.std.specs.Prelude.{List};
-    ghost use Rattle.vch_model.specs.declared.total.Total.{Total};
-
-    ghost Value = { List Total };
-
-    ghost view = { λ l. l.items.items };
-}
-
-impl TotalList {
-    /// The empty list. It takes no memory.
-    pub fn new(alloc: Global) -> TotalList
-        ensures { result ≡ [] }
-    {
-        TotalList {
-            items: Vec::new(alloc),
-        }
-    }
-
-    /// Appends an item.
-    pub fn push(&mut self, item: Total) -> Result<(), NoMemory>
-        ensures ok { OnOk result (self.new ≡ self.old ++ item ∷ []) }
-        ensures err { OnErr result (self.new ≡ self.old) }
-    {
-        self.items.push(item)?;
-        Ok(())
-    }
-
-    /// How many items it has.
-    pub fn len(&self) -> usize
-        ensures { result ≡ length self.now }
-    {
-        self.items.len()
-    }
-
-    /// The item at a place, counted from 0.
-    pub fn at(&self, i: usize) -> &Total
-        requires { i < length self.now }
-        ensures { slice_get self.now i ≡ Some result.now }
-    {
-        &self.items[i]
     }
 }
 

@@ -282,7 +282,7 @@ pub only_by : (text : List ℕ) (r : Result Scenario ScenarioFault) (sc : Scenar
 unfolding read_of
 only_by text r sc h i =
     unless_ok r sc
-        (subst (λ (x : Result Scenario At). Reads r x) (lead_answered (split_of text).0 1 nothing (split_of text).1 i.1 refl i.2 i.3 i.0 ∙ ap (λ (x : Scenario). answered x) (sym i.4)) h)
+    (subst (λ (x : Result Scenario At). Reads r x) (lead_answered (split_of text).0 1 nothing (split_of text).1 i.1 refl i.2 i.3 i.0 ∙ ap (λ (x : Scenario). answered x) (sym i.4)) h)
 
 told_fault : (text : List ℕ) (r : Result Scenario ScenarioFault) (line : ℕ) (why : Why) → Reads r (read_of text) → r ≡ Err (faults.At line why) → read_of text ≡ Err (at_line line why)
 told_fault text r line why h e = subst (λ (x : Result Scenario ScenarioFault). Reads x (read_of text)) e h
@@ -295,4 +295,4 @@ pub fault_only_by : (text : List ℕ) (r : Result Scenario ScenarioFault) (line 
 unfolding read_of
 fault_only_by text r line why h i =
     unless_err r line why
-        (subst (λ (x : Result Scenario At). Reads r x) (fault_answered (split_of text).0 1 nothing (split_of text).1 line why refl i) h)
+    (subst (λ (x : Result Scenario At). Reads r x) (fault_answered (split_of text).0 1 nothing (split_of text).1 line why refl i) h)

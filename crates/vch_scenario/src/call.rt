@@ -6,7 +6,9 @@ use crate::fault::{Stop, Why};
 use crate::task::task_among;
 use std::alloc::Global;
 use vch_model::{Call, Line, Word};
-use vch_text::{TOP, end, front, hex_bytes, is_word, number, number_in, one_number, two_numbers, word};
+use vch_text::{
+    TOP, end, front, hex_bytes, is_word, number, number_in, one_number, two_numbers, word,
+};
 
 /// A number that isn't above 4294967295.
 #[tactic(auto, unfolding(crate::specs::Calls::fit))]

@@ -23,6 +23,8 @@ mod fault;
 mod laws;
 mod reader;
 mod task;
+#[cfg(test)]
+mod tests;
 mod writer;
 
 pub use draft::{MOST_CALLS, MOST_PHASES, MOST_TASKS};

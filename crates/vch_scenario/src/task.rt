@@ -89,4 +89,3 @@ pub fn tasks_of(line: &[u8]) -> Result<u32, Why>
     let n = one_number(rest).ok_or(Why::Form)?;
     task_among(MOST_TASKS, n)
 }
-

@@ -1,0 +1,12 @@
+pub mod Belows
+pub mod Lower
+pub mod LineWords
+pub mod ChainWords
+pub mod MadeLines
+pub mod ReplyLines
+pub mod Chains
+pub mod ItemLines
+pub mod Runs
+pub mod Begun
+pub mod Wholes
+pub mod Loops

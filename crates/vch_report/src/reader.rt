@@ -1,0 +1,152 @@
+ghost use Rattle.std.specs.Prelude.{◌≡◌, ◌<◌, ℕ, length, IfOk};
+ghost use Rattle.vch_report.specs.declared.report.Report.{Report};
+ghost use Rattle.vch_report.specs.Reading as reading;
+ghost use Rattle.vch_report.specs.Faults.{IsReport, IsRead, IsFault, IsRefused, IsFaultOf};
+
+use crate::draft::{Draft, Place};
+use crate::fault::Stop;
+use crate::item::Item;
+use crate::lines::item;
+use crate::{Report, ReportFault};
+use std::alloc::Global;
+use vch_model::{Entry, History, Total, TotalList};
+use vch_text::next_line;
+
+/// What was read, with the line of the next task.
+fn with_total(mut draft: Draft, task: u32, total: Total) -> Result<Draft, Stop>
+    requires { length draft.totals < 4294967295 }
+    ensures { reading.Gives reading.kept result (reading.with_total (reading.kept draft) task total) }
+{
+    if task as usize != draft.totals.len() + 1 {
+        return Err(Stop::Fault);
+    }
+    draft.totals.push(total)?;
+    draft.place = Place::Totals;
+    Ok(draft)
+}
+
+/// What was read, with one entry more.
+fn with_entry(mut draft: Draft, entry: Entry) -> Result<Draft, Stop>
+    ensures { reading.Gives reading.kept result (reading.with_entry (reading.kept draft) entry) }
+{
+    draft.history.reserve(1)?;
+    draft.history.push(entry);
+    Ok(draft)
+}
+
+/// What was read with one item more, where that may stand at this place.
+fn with_item(draft: Draft, item: Item) -> Result<Draft, Stop>
+    requires { length draft.totals < 4294967295 }
+    ensures { reading.Gives reading.kept result (reading.with_item draft.place (reading.kept draft) item) }
+{
+    match (draft.place, item) {
+        (Place::Title, Item::Title) => Ok(Draft {
+            place: Place::Entries,
+            ..draft
+        }),
+        (Place::Entries, Item::Step { entry }) => with_entry(draft, entry),
+        (Place::Entries, Item::Task { task, total }) => with_total(draft, task, total),
+        (Place::Totals, Item::Task { task, total }) => with_total(draft, task, total),
+        (Place::Totals, Item::Counts { vouchers, values }) => Ok(Draft {
+            place: Place::End,
+            vouchers,
+            values,
+            ..draft
+        }),
+        (Place::End, Item::End) => Ok(Draft {
+            place: Place::Done,
+            ..draft
+        }),
+        _ => Err(Stop::Fault),
+    }
+}
+
+/// What the next line makes of what was read.
+#[tactic(auto, unfolding(crate::specs::Reading::step_of))]
+fn step(alloc: Global, draft: Draft, line: &[u8]) -> Result<Draft, Stop>
+    requires { length draft.totals < 4294967295 }
+    ensures { reading.Gives reading.kept result (reading.step_of (reading.kept draft) line.now) }
+{
+    let item = item(alloc, line)?;
+    with_item(draft, item)
+}
+
+/// Whether the last line was read.
+fn is_done(place: Place) -> bool
+    ensures { result ≡ reading.is_done place }
+{
+    match place {
+        Place::Done => true,
+        _ => false,
+    }
+}
+
+/// What a draft is at the end of the text, behind the last line feed.
+#[tactic(auto, unfolding(crate::specs::Reading::finish))]
+fn finish(number: u32, draft: Draft, rest: &[u8]) -> Result<Report, ReportFault>
+    ensures { reading.Reads result (reading.finish number (reading.kept draft) rest.now) }
+{
+    if is_done(draft.place) && rest.is_empty() {
+        Ok(Report {
+            history: draft.history,
+            totals: draft.totals,
+            vouchers: draft.vouchers,
+            values: draft.values,
+        })
+    } else {
+        Err(ReportFault::At { line: number })
+    }
+}
+
+/// What stops the reading of the line with this number.
+fn at_line(number: u32, stop: Stop) -> ReportFault
+    ensures { result ≡ reading.fault_at number stop }
+{
+    match stop {
+        Stop::Fault => ReportFault::At { line: number },
+        Stop::Memory => ReportFault::NoMemory,
+    }
+}
+
+/// What is read of a text, line by line.
+fn read_lines(alloc: Global, bytes: &[u8]) -> Result<Report, ReportFault>
+    requires { length bytes.now < 4294967295 }
+    ensures { reading.Reads result (reading.read_of bytes.now) }
+{
+    let mut draft = Draft {
+        place: Place::Title,
+        history: History::new(alloc),
+        totals: TotalList::new(alloc),
+        vouchers: 0,
+        values: 0,
+    };
+    let mut rest = bytes;
+    let mut number = 1;
+    while let Some((line, more)) = next_line(rest) {
+        draft = match step(alloc, draft, line) {
+            Ok(draft) => draft,
+            Err(stop) => return Err(at_line(number, stop)),
+        };
+        rest = more;
+        number += 1;
+    }
+    finish(number, draft, rest)
+}
+
+/// The report that a text spells, or the first line that can't stand at its place. It does not ask
+/// whether the history is legal.
+///
+/// It goes over the text once, and takes memory only for what the report keeps.
+pub fn read(alloc: Global, bytes: &[u8]) -> Result<Report, ReportFault>
+    requires { length bytes.now < 4294967295 }
+    // What is read is well formed, and its text is the bytes.
+    ensures found { IfOk result (λ report. IsReport bytes.now report) }
+    // A well-formed report whose text is the bytes is read, unless memory runs out.
+    ensures only { (report : Report) → IsReport bytes.now report → IsRead result report }
+    // The line of a fault is the first that can't stand at its place.
+    ensures fault { IsFaultOf result bytes.now }
+    // The first line that can't stand is answered, unless memory runs out.
+    ensures fault_only { (line : ℕ) → IsFault bytes.now line → IsRefused result line }
+{
+    read_lines(alloc, bytes)
+}
