@@ -41,7 +41,7 @@ use Rattle.vch_state.specs.Pictures.{claimed}
 use Rattle.vch_state.specs.Bounds.{Limited}
 use Rattle.vch_state.specs.Stands.{StandsFor}
 use Rattle.vch_state.specs.Moves.{one_asked, noted_release, less_room}
-use Rattle.vch_state.specs.Reached.{plain_of, part_in, IsState, IsEvent, Follows, Reached, value_kind}
+use Rattle.vch_state.specs.Reached.{plain_of, parts_in, IsState, IsEvent, Follows, Reached, value_kind}
 use Rattle.vch_state.proofs.FrameParts.{frame_is, machine_frame_is}
 use Rattle.vch_state.proofs.Glue.{put_taken, own_frame, in_parts, in_frames, twin_of, is_user, there_of, from_reached, event_is, asks_next}
 use Rattle.vch_state.proofs.Spending.{done_bound}
@@ -92,7 +92,7 @@ module _ (p : Parts) (t : ℕ) (f : Frame) (key : Key) (x : flight.Claim) (task 
 
   seen : (m : Machine) (A : Type 0) → StandsFor p.scenario (keys.User ∷ []) (plain_of p) m
       → ((g : machine.Frame) (y : machine.Claim) → key ≡ keys.User → (tasked m t).frame ≡ Some g → Asking p f x g y → A) → A
-  seen m A s h = twin_of p.scenario (keys.User ∷ []) (plain_of p) m t f A s task (own_frame p t ∙ own)
+  seen m A s h = twin_of p.scenario (keys.User ∷ []) (plain_of p) m t f A s task (own_frame p m t s task ∙ own)
     (λ g e r. asking_of p (current p.scenario m t) f key x g A r told claim (λ y user z. h g y user e z))
 
   module _ (m : Machine) (s : StandsFor p.scenario (keys.User ∷ []) (plain_of p) m) (g : machine.Frame) (y : machine.Claim) (user : key ≡ keys.User) (e : (tasked m t).frame ≡ Some g) (z : Asking p f x g y) where
@@ -100,7 +100,7 @@ module _ (p : Parts) (t : ℕ) (f : Frame) (key : Key) (x : flight.Claim) (task 
     h = y.place.handle
 
     own_is : (part_of (plain_of p) t).frame ≡ Some (leaving_frame f.forming f.at f.key f.lets (Claiming.Claimed keys.User x))
-    own_is = own_frame p t ∙ own ∙ ap Some z.own
+    own_is = own_frame p m t s task ∙ own ∙ ap Some z.own
 
     twin_is : (tasked m t).frame ≡ Some (leaving_machine g.forming g.at_byte g.keys g.lets (Some (unasked h y)))
     twin_is = e ∙ ap Some z.twin
@@ -174,9 +174,9 @@ module _ (p : Parts) (t : ℕ) (f : Frame) (key : Key) (x : flight.Claim) (task 
         frame_then : record f { claim = Claiming.Answered key asked } ≡ leaving_frame f.forming f.at f.key f.lets (Claiming.Answered keys.User asked)
         frame_then = rw (told, user) refl
 
-        tasks_then : map part_in frames2 ≡ NextParts.tasks
-        tasks_then = ap (map part_in) put ∙ put_taken p.frames t (Some (record f { claim = Claiming.Answered key asked })) (in_frames p m t s task)
-          ∙ ap (λ u. set (map part_in p.frames) (t - 1) (with_frame (get_or (map part_in p.frames) (t - 1) idle_part) (Some u))) frame_then
+        tasks_then : parts_in p.spaces frames2 ≡ NextParts.tasks
+        tasks_then = ap (parts_in p.spaces) put ∙ put_taken p.spaces p.frames t (Some (record f { claim = Claiming.Answered key asked })) (in_frames p m t s task)
+          ∙ ap (λ u. set (parts_in p.spaces p.frames) (t - 1) (with_frame (get_or (parts_in p.spaces p.frames) (t - 1) idle_part) (Some u))) frame_then
 
         made_is : made ≡ number_at p.made.user h
         made_is = number ∙ ap (λ k. number_at (of_key k p.made) h) user

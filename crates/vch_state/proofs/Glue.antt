@@ -13,6 +13,7 @@ use Rattle.vch_entry.specs.Entries.{handle_at, entry_at, handle_of}
 use Rattle.vch_model.specs.Lines.{is_task}
 use Rattle.vch_model.specs.declared.call.Call.{Call}
 use Rattle.vch_model.specs.declared.lists.Scenario.{Scenario}
+use Rattle.vch_ports.specs.Names.{Names}
 use Rattle.vch_machine.specs.State as machine
 use Rattle.vch_machine.specs.State.{Machine, Tasked, tasked, idle}
 use Rattle.vch_machine.specs.Next.{current, next_kind}
@@ -27,20 +28,32 @@ use Rattle.vch_state.specs.Plain.{Plain, Part, part_of, idle_part, with_frame, r
 use Rattle.vch_state.specs.Shape.{Optional, IsFrame, IsIndexOf, Shape}
 use Rattle.vch_state.specs.Bounds.{Limited}
 use Rattle.vch_state.specs.Stands.{StandsFor}
-use Rattle.vch_state.specs.Reached.{plain_of, part_in, IsState, IsEnd, Reached, value_kind, receipt_kind, claim_kind, lets_kind}
+use Rattle.vch_state.specs.Reached.{plain_of, part_in, parts_in, IsState, IsEnd, Reached, value_kind, receipt_kind, claim_kind, lets_kind}
 
 -- a frame that is put where another was taken
-pub put_taken : (fs : List Working) (t : ℕ) (f : Option Frame) → t - 1 < length fs
-    → map part_in (with_frame_of (with_frame_of fs t None) t f) ≡ set (map part_in fs) (t - 1) (with_frame (get_or (map part_in fs) (t - 1) idle_part) f)
-put_taken fs t f l =
-    let e : working_of (with_frame_of fs t None) t ≡ record { begun = (working_of fs t).begun; frame = None } = get_or-set_same fs (t - 1) (record { begun = (working_of fs t).begun; frame = None }) resting l in
-    let same : get_or (map part_in fs) (t - 1) idle_part ≡ part_in (working_of fs t) = get_or-map part_in fs (t - 1) resting in
-    ap (map part_in) (ap (λ (w : Working). set (with_frame_of fs t None) (t - 1) (record w { frame = f })) e ∙ set-set fs (t - 1) (record { begun = (working_of fs t).begun; frame = None }) (record { begun = (working_of fs t).begun; frame = f }))
-    ∙ map-set part_in fs (t - 1) (record { begun = (working_of fs t).begun; frame = f })
-    ∙ ap (λ (x : Part). set (map part_in fs) (t - 1) (with_frame x f)) (sym same)
+parts_put : (ss : List Names) (fs : List Working) (i : ℕ) (f : Option Frame) → parts_in ss (set fs i (record (get_or fs i resting) { frame = f })) ≡ set (parts_in ss fs) i (with_frame (get_or (parts_in ss fs) i idle_part) f)
+parts_put [] fs i f = refl
+parts_put (s ∷ ss) [] i f = refl
+parts_put (s ∷ ss) (x ∷ fs) zero f = refl
+parts_put (s ∷ ss) (x ∷ fs) (suc i) f = ap (λ ps. part_in s x ∷ ps) (parts_put ss fs i f)
 
-pub own_frame : (p : Parts) (t : ℕ) → (part_of (plain_of p) t).frame ≡ frame_of p.frames t
-own_frame p t = ap (λ (x : Part). x.frame) (get_or-map part_in p.frames (t - 1) resting)
+parts_frame : (ss : List Names) (fs : List Working) (i : ℕ) → i < length (parts_in ss fs) → (get_or (parts_in ss fs) i idle_part).frame ≡ (get_or fs i resting).frame
+parts_frame [] fs i l = absurd (omega arith)
+parts_frame (s ∷ ss) [] i l = absurd (omega arith)
+parts_frame (s ∷ ss) (x ∷ fs) zero l = refl
+parts_frame (s ∷ ss) (x ∷ fs) (suc i) l = parts_frame ss fs i (omega arith)
+
+parts_range : (ss : List Names) (fs : List Working) → length (parts_in ss fs) ≤ length fs
+parts_range [] fs = omega arith
+parts_range (s ∷ ss) [] = omega arith
+parts_range (s ∷ ss) (x ∷ fs) = let e : length (parts_in ss fs) ≤ length fs = parts_range ss fs in omega arith
+
+pub put_taken : (ss : List Names) (fs : List Working) (t : ℕ) (f : Option Frame) → t - 1 < length (parts_in ss fs)
+    → parts_in ss (with_frame_of (with_frame_of fs t None) t f) ≡ set (parts_in ss fs) (t - 1) (with_frame (get_or (parts_in ss fs) (t - 1) idle_part) f)
+put_taken ss fs t f l =
+    let e : working_of (with_frame_of fs t None) t ≡ record { begun = (working_of fs t).begun; frame = None } = get_or-set_same fs (t - 1) (record { begun = (working_of fs t).begun; frame = None }) resting (omega (arith, l, parts_range ss fs)) in
+    ap (parts_in ss) (ap (λ (w : Working). set (with_frame_of fs t None) (t - 1) (record w { frame = f })) e ∙ set-set fs (t - 1) (record { begun = (working_of fs t).begun; frame = None }) (record { begun = (working_of fs t).begun; frame = f }))
+    ∙ parts_put ss fs (t - 1) f
 
 pub task_number : (sc : Scenario) (t : ℕ) → is_task sc t ≡ true → (0 < t) × (t - 1 < length sc.flags)
 task_number sc t e = let a : 0 < t = grind (arith, common_steps) in let b : t < length sc.flags + 1 = grind (arith, common_steps) in (a, omega (arith, a, b))
@@ -49,8 +62,11 @@ task_number sc t e = let a : 0 < t = grind (arith, common_steps) in let b : t < 
 pub in_parts : (sc : Scenario) (ks : List Key) (c : Plain) (m : Machine) (t : ℕ) → StandsFor sc ks c m → is_task sc t ≡ true → (0 < t) × (t - 1 < length c.tasks)
 in_parts sc ks c m t s e = let n = task_number sc t e in (n.0, omega (arith, n.1, s.shape.long, s.fits.tasks))
 
-pub in_frames : (p : Parts) (m : Machine) (t : ℕ) → StandsFor p.scenario (keys.User ∷ []) (plain_of p) m → is_task p.scenario t ≡ true → t - 1 < length p.frames
-in_frames p m t s e = let n = in_parts p.scenario (keys.User ∷ []) (plain_of p) m t s e in subst (λ l. t - 1 < l) (length-map p.frames part_in) n.1
+pub in_frames : (p : Parts) (m : Machine) (t : ℕ) → StandsFor p.scenario (keys.User ∷ []) (plain_of p) m → is_task p.scenario t ≡ true → t - 1 < length (parts_in p.spaces p.frames)
+in_frames p m t s e = (in_parts p.scenario (keys.User ∷ []) (plain_of p) m t s e).1
+
+pub own_frame : (p : Parts) (m : Machine) (t : ℕ) → StandsFor p.scenario (keys.User ∷ []) (plain_of p) m → is_task p.scenario t ≡ true → (part_of (plain_of p) t).frame ≡ frame_of p.frames t
+own_frame p m t s e = parts_frame p.spaces p.frames (t - 1) (in_frames p m t s e)
 
 -- the machine's frame beside one of the core
 pub twin : (c : Plain) (call : Option Call) (f : Frame) (o : Option machine.Frame) (P : Type 0) → Optional (IsFrame c call) (Some f) o → ((g : machine.Frame) → o ≡ Some g → IsFrame c call f g → P) → P

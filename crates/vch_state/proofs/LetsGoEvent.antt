@@ -40,7 +40,7 @@ use Rattle.vch_state.specs.Pictures.{picture_of}
 use Rattle.vch_state.specs.Bounds.{Limited}
 use Rattle.vch_state.specs.Stands.{StandsFor}
 use Rattle.vch_state.specs.Moves.{claiming, more_claims}
-use Rattle.vch_state.specs.Reached.{plain_of, part_in, IsState, IsEvent, Follows, Reached, value_kind}
+use Rattle.vch_state.specs.Reached.{plain_of, parts_in, IsState, IsEvent, Follows, Reached, value_kind}
 use Rattle.vch_state.proofs.FrameParts.{frame_is, machine_frame_is}
 use Rattle.vch_state.proofs.Glue.{put_taken, own_frame, in_parts, in_frames, twin_of, is_user, there_of, entry_of_handle, from_reached, event_is, lets_go_next}
 use Rattle.vch_state.proofs.Spending.{done_bound}
@@ -108,7 +108,7 @@ module _ (p : Parts) (t : ℕ) (f : Frame) (l : KeyIndex) (ls : List KeyIndex) (
   Seen m A = (g : machine.Frame) (q : Place) (rest : List Place) → (tasked m t).frame ≡ Some g → Leaving (plain_of p) f l ls g q rest → A
 
   seen : (m : Machine) (A : Type 0) → StandsFor p.scenario (keys.User ∷ []) (plain_of p) m → Seen m A → A
-  seen m A s h = twin_of p.scenario (keys.User ∷ []) (plain_of p) m t f A s task (own_frame p t ∙ own)
+  seen m A s h = twin_of p.scenario (keys.User ∷ []) (plain_of p) m t f A s task (own_frame p m t s task ∙ own)
       (λ g e r. leaving_of (plain_of p) (current p.scenario m t) f l ls g A r told.0 told.1 lets (λ q rest z. h g q rest e z))
 
   pub let_go_there : Reached p → IsSome (entry_at p.user_entries.slots l.index)
@@ -128,7 +128,7 @@ module _ (p : Parts) (t : ℕ) (f : Frame) (l : KeyIndex) (ls : List KeyIndex) (
     index = subst (λ k. IsIndexOf (plain_of p) k l.index q.handle) key z.first.1
 
     own_is : (part_of (plain_of p) t).frame ≡ Some (leaving_frame f.forming f.at f.key (l ∷ ls) Claiming.Nothing)
-    own_is = own_frame p t ∙ own ∙ ap Some z.own
+    own_is = own_frame p m t s task ∙ own ∙ ap Some z.own
 
     here : q ≡ record { key = keys.User; handle = q.handle }
     here = place_is q (sym z.first.0 ∙ key)
@@ -216,9 +216,9 @@ module _ (p : Parts) (t : ℕ) (f : Frame) (l : KeyIndex) (ls : List KeyIndex) (
         frame_then : record f { lets = ls; claim = claiming l.key o } ≡ leaving_frame f.forming f.at f.key ls (claiming keys.User o)
         frame_then = rw (told.0, key) refl
 
-        tasks_then : map part_in frames2 ≡ NextParts.tasks
-        tasks_then = ap (map part_in) put ∙ put_taken p.frames t (closed (record f { lets = ls; claim = claiming l.key o })) (in_frames p m t s task)
-            ∙ ap (λ x. set (map part_in p.frames) (t - 1) (with_frame (get_or (map part_in p.frames) (t - 1) idle_part) (closed x))) frame_then
+        tasks_then : parts_in p.spaces frames2 ≡ NextParts.tasks
+        tasks_then = ap (parts_in p.spaces) put ∙ put_taken p.spaces p.frames t (closed (record f { lets = ls; claim = claiming l.key o })) (in_frames p m t s task)
+            ∙ ap (λ x. set (parts_in p.spaces p.frames) (t - 1) (with_frame (get_or (parts_in p.spaces p.frames) (t - 1) idle_part) (closed x))) frame_then
 
         stands_then : StandsFor p.scenario (keys.User ∷ []) (plain_of new_parts) Next
         stands_then = subst (λ ts. StandsFor p.scenario (keys.User ∷ []) (record (plain_of new_parts) { tasks = ts }) Next) (sym tasks_then)

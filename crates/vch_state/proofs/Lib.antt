@@ -18,3 +18,4 @@ pub mod AsksEvent
 pub mod Unused
 pub mod Rechecks
 pub mod RechecksEvent
+pub mod FromStart

@@ -46,7 +46,7 @@ use Rattle.vch_state.specs.Pictures.{picture_of, cell_holds, listed, translated,
 use Rattle.vch_state.specs.Bounds.{Limited}
 use Rattle.vch_state.specs.Stands.{StandsFor}
 use Rattle.vch_state.specs.Moves.{with_values, with_frame_at, claiming}
-use Rattle.vch_state.specs.Reached.{plain_of, part_in, IsState, IsEvent, Follows, Reached, value_kind}
+use Rattle.vch_state.specs.Reached.{plain_of, parts_in, IsState, IsEvent, Follows, Reached, value_kind}
 use Rattle.vch_state.proofs.FrameParts.{frame_is, machine_frame_is}
 use Rattle.vch_state.proofs.Glue.{put_taken, own_frame, in_parts, in_frames, twin_of, is_user, there_of, entry_of_handle, from_reached, event_is, rechecks_next}
 use Rattle.vch_state.proofs.Held.{held_counted}
@@ -138,7 +138,7 @@ module _ (p : Parts) (t : ℕ) (f : Frame) (key : Key) (x : Asked) (task : is_ta
 
   seen : (m : Machine) (A : Type 0) → StandsFor p.scenario (keys.User ∷ []) (plain_of p) m
       → ((g : machine.Frame) (y : machine.Claim) → key ≡ keys.User → (tasked m t).frame ≡ Some g → Answering p f x g y → A) → A
-  seen m A s h = twin_of p.scenario (keys.User ∷ []) (plain_of p) m t f A s task (own_frame p t ∙ own)
+  seen m A s h = twin_of p.scenario (keys.User ∷ []) (plain_of p) m t f A s task (own_frame p m t s task ∙ own)
     (λ g e r. answering_of p (current p.scenario m t) f key x g A r told claim (λ y user z. h g y user e z))
 
   module _ (m : Machine) (s : StandsFor p.scenario (keys.User ∷ []) (plain_of p) m) (g : machine.Frame) (y : machine.Claim) (user : key ≡ keys.User) (e : (tasked m t).frame ≡ Some g) (z : Answering p f x g y) where
@@ -149,7 +149,7 @@ module _ (p : Parts) (t : ℕ) (f : Frame) (key : Key) (x : Asked) (task : is_ta
     Y = answered h x.agreed y
 
     own_is : (part_of (plain_of p) t).frame ≡ Some (leaving_frame f.forming f.at f.key f.lets (Claiming.Answered keys.User x))
-    own_is = own_frame p t ∙ own ∙ ap Some z.own
+    own_is = own_frame p m t s task ∙ own ∙ ap Some z.own
 
     twin_is : (tasked m t).frame ≡ Some (leaving_machine g.forming g.at_byte g.keys g.lets (Some Y))
     twin_is = e ∙ ap Some z.twin
@@ -329,9 +329,9 @@ module _ (p : Parts) (t : ℕ) (f : Frame) (key : Key) (x : Asked) (task : is_ta
           frame_then : record f { claim = claiming key o } ≡ leaving_frame f.forming f.at f.key f.lets (claiming keys.User o)
           frame_then = rw (told, user) refl
 
-          tasks_then : map part_in frames2 ≡ D.tasks
-          tasks_then = ap (map part_in) put ∙ put_taken p.frames t (closed (record f { claim = claiming key o })) (in_frames p m t s task)
-            ∙ ap (λ u. set (map part_in p.frames) (t - 1) (with_frame (get_or (map part_in p.frames) (t - 1) idle_part) (closed u))) frame_then
+          tasks_then : parts_in p.spaces frames2 ≡ D.tasks
+          tasks_then = ap (parts_in p.spaces) put ∙ put_taken p.spaces p.frames t (closed (record f { claim = claiming key o })) (in_frames p m t s task)
+            ∙ ap (λ u. set (parts_in p.spaces p.frames) (t - 1) (with_frame (get_or (parts_in p.spaces p.frames) (t - 1) idle_part) (closed u))) frame_then
 
           stands_then : StandsFor p.scenario (keys.User ∷ []) (plain_of new_parts) Next
           stands_then = subst (λ ts. StandsFor p.scenario (keys.User ∷ []) (record (plain_of new_parts) { tasks = ts }) Next) (sym tasks_then) next_stands

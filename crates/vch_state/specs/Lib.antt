@@ -5,3 +5,4 @@ pub mod Bounds
 pub mod Stands
 pub mod Moves
 pub mod Reached
+pub mod Fresh

@@ -5,6 +5,7 @@ use Rattle.vch_entry.specs.Entries.{Entries}
 use Rattle.vch_machine.specs.State.{Keyed, is_empty}
 use Rattle.vch_model.specs.declared.entry.Entry.{Entry}
 use Rattle.vch_table.specs.declared.table.Cell.{Cell}
+use Rattle.vch_ports.specs.declared.space.Named.{Named}
 use Rattle.vch_state.specs.declared.frame.Frame.{Frame}
 use Rattle.vch_state.specs.declared.frame.Claiming.{Claiming}
 use Rattle.vch_state.specs.declared.frames.Working.{Working}
@@ -46,10 +47,8 @@ abbrev pub no_numbers : Keyed (List ℕ)
 no_numbers = record { importance = []; bank = []; user = [] }
 
 -- a name of a task: the slot of its voucher, and its user references
-pub record SlotName : Type 0 where
-  pub name : ℕ
-  pub slot : ℕ
-  pub references : ℕ
+abbrev pub SlotName : Type 0
+SlotName = Named
 
 -- a queued message: who sent it, its id, and the slot of its voucher or none
 pub record SlotMessage : Type 0 where

@@ -5,6 +5,7 @@ use Rattle.vch_base.specs.declared.kind.Kind.{Kind}
 use Rattle.vch_base.specs.declared.kind.Kind.TheVariants as kinds
 use Rattle.vch_base.specs.Managers.{user_rules}
 use Rattle.vch_model.specs.declared.lists.Scenario.{Scenario}
+use Rattle.vch_ports.specs.Names.{Names}
 use Rattle.vch_machine.specs.State.{Machine}
 use Rattle.vch_machine.specs.Events.{event, phase_event}
 use Rattle.vch_machine.specs.Next.{next_kind}
@@ -19,9 +20,13 @@ use Rattle.vch_state.specs.Plain.{Plain, Part, KeyParts}
 use Rattle.vch_state.specs.Bounds.{Limited}
 use Rattle.vch_state.specs.Stands.{StandsFor}
 
--- a task's part of a core
-abbrev pub part_in : Working → Part
-part_in x = record { names = []; next = 1; queue = []; begun = x.begun; frame = x.frame }
+-- a task's part of a core: its names and what it works at
+abbrev pub part_in : Names → Working → Part
+part_in s x = record { names = s.names; next = s.next; queue = []; begun = x.begun; frame = x.frame }
+
+abbrev pub parts_in : List Names → List Working → List Part
+parts_in (s ∷ spaces) (x ∷ frames) = part_in s x ∷ parts_in spaces frames
+parts_in spaces frames = []
 
 -- a key without a manager
 abbrev pub no_parts : KeyParts
@@ -32,7 +37,7 @@ abbrev pub plain_of : Parts → Plain
 plain_of p = record {
   keyed = record { importance = no_parts; bank = no_parts; user = record { entries = p.user_entries; kept = p.user; numbers = p.made.user } };
   table = p.vouchers;
-  tasks = map part_in p.frames;
+  tasks = parts_in p.spaces p.frames;
   history = p.history.entries;
   spare = p.history.spare;
   phase = p.phase;

@@ -82,3 +82,4 @@ impl Frames {
         self.items[task as usize - 1].frame = frame;
     }
 }
+

@@ -1,4 +1,4 @@
-use crate::{Frames, MadeNumbers, Tally};
+use crate::{Frames, MadeNumbers, Spaces, Tally};
 use vch_entry::EntryTable;
 use vch_model::{History, Scenario};
 use vch_table::VoucherTable;
@@ -15,6 +15,7 @@ pub struct Parts {
     pub user: UserManager,
     pub user_entries: EntryTable,
     pub vouchers: VoucherTable,
+    pub spaces: Spaces,
     pub tally: Tally,
     pub made: MadeNumbers,
     pub history: History,
