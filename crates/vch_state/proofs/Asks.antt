@@ -156,8 +156,8 @@ module _ (sc : Scenario) (k : Key) (c : Plain) (m : Machine) (t : ℕ) (positive
 
   shape_after : Shape sc then_parts then_machine
   shape_after = shape_then sc c m t positive inside s.shape then_parts then_machine (Some F2) (Some G2) refl tasks_are refl
-    (λ u n q i. task_stays c then_parts stable refl (current sc m u) (part_of c u) (tasked m u) (s.shape.tasks u q i))
-    (let z : IsTask then_parts (current sc m t) (part_of c t) (tasked m t) = task_stays c then_parts stable refl (current sc m t) (part_of c t) (tasked m t) (s.shape.tasks t positive inside) in
+      (λ u n q i. task_stays c then_parts stable refl (current sc m u) (part_of c u) (tasked m u) (s.shape.tasks u q i))
+      (let z : IsTask then_parts (current sc m t) (part_of c t) (tasked m t) = task_stays c then_parts stable refl (current sc m t) (part_of c t) (tasked m t) (s.shape.tasks t positive inside) in
       record { names = z.names; next = z.next; queue = z.queue; begun = z.begun; frame = new_frame })
 
   abbrev pub P : Picture
@@ -172,7 +172,7 @@ module _ (sc : Scenario) (k : Key) (c : Plain) (m : Machine) (t : ℕ) (positive
   picture_after : picture_of k then_parts then_machine ≡ answered_picture
   picture_after =
       one.picture_after sc k c m t positive inside v at key ls w place keys rest (Claiming.Claimed k x) y own task refl s then_parts then_machine (Some F2) (Some G2) (Claiming.Answered k asked) (Some y2)
-        refl tasks_are (cells_same c then_parts k (λ i. all_handles i k) c.table) refl refl refl
+      refl tasks_are (cells_same c then_parts k (λ i. all_handles i k) c.table) refl refl refl
       ∙ rw (same_key_refl k, same_sync) refl
 
   abbrev Living_at : Bool → ℕ → Type 0
@@ -237,13 +237,16 @@ module _ (sc : Scenario) (k : Key) (c : Plain) (m : Machine) (t : ℕ) (positive
 
   pub stands_after : picture.Stands answered_picture (of_key k c.keyed).entries kept2 → Fits sc then_machine → StandsFor sc (k ∷ []) then_parts then_machine
   stands_after counts fits = record {
-    keyed = (record {
-      living = λ i. rw is_new (living b i);
-      free = rw is_new (free b);
-      used = rw is_new (used b);
-      row = rw is_new (row b);
-      counts = rw is_new (subst (λ (q : Picture). picture.Stands q (of_key k c.keyed).entries kept2) (sym picture_after) counts);
-    }, tt);
+    keyed = (
+      record {
+        living = λ i. rw is_new (living b i);
+        free = rw is_new (free b);
+        used = rw is_new (used b);
+        row = rw is_new (row b);
+        counts = rw is_new (subst (λ (q : Picture). picture.Stands q (of_key k c.keyed).entries kept2) (sym picture_after) counts);
+      },
+      tt,
+    );
     shape = shape_after;
     history = history b;
     phase = s.phase ∙ sym (phases b);
@@ -251,9 +254,9 @@ module _ (sc : Scenario) (k : Key) (c : Plain) (m : Machine) (t : ℕ) (positive
     asked = rw is_new (asked_one c.tally.asks (of_key k c.keyed).kept.asked kept2.asked s.asked (more_asked b));
     room = rw is_new (room b);
     spent = spent_then sc m then_machine t (Some G2) positive inside_tasks tasks_are
-      (subst (λ (z : machine.Tally). (z.claims + z.refers) + rank (current sc m t) (Some G2) ≤ (m.tally.claims + m.tally.refers) + rank (current sc m t) (tasked m t).frame) (sym tally_is)
+        (subst (λ (z : machine.Tally). (z.claims + z.refers) + rank (current sc m t) (Some G2) ≤ (m.tally.claims + m.tally.refers) + rank (current sc m t) (tasked m t).frame) (sym tally_is)
         (subst (λ o. (m.tally.claims + m.tally.refers) + rank (current sc m t) (Some G2) ≤ (m.tally.claims + m.tally.refers) + rank (current sc m t) o) (sym task)
-          (same_work (work_same (current sc m t) G2 (leaving_machine w place keys rest (Some y)) w refl refl)))) s.spent;
+        (same_work (work_same (current sc m t) G2 (leaving_machine w place keys rest (Some y)) w refl refl)))) s.spent;
     fits = fits;
   }
     where

@@ -93,7 +93,7 @@ module _ (p : Parts) (t : ℕ) (f : Frame) (key : Key) (x : flight.Claim) (task 
   seen : (m : Machine) (A : Type 0) → StandsFor p.scenario (keys.User ∷ []) (plain_of p) m
       → ((g : machine.Frame) (y : machine.Claim) → key ≡ keys.User → (tasked m t).frame ≡ Some g → Asking p f x g y → A) → A
   seen m A s h = twin_of p.scenario (keys.User ∷ []) (plain_of p) m t f A s task (own_frame p m t s task ∙ own)
-    (λ g e r. asking_of p (current p.scenario m t) f key x g A r told claim (λ y user z. h g y user e z))
+      (λ g e r. asking_of p (current p.scenario m t) f key x g A r told claim (λ y user z. h g y user e z))
 
   module _ (m : Machine) (s : StandsFor p.scenario (keys.User ∷ []) (plain_of p) m) (g : machine.Frame) (y : machine.Claim) (user : key ≡ keys.User) (e : (tasked m t).frame ≡ Some g) (z : Asking p f x g y) where
     abbrev h : ℕ
@@ -122,7 +122,7 @@ module _ (p : Parts) (t : ℕ) (f : Frame) (key : Key) (x : flight.Claim) (task 
     module _ (want : Bool) (limited : Limited p.scenario) (l : Live) (alive : live_at p.user.slots h ≡ Some l) (asked : Asked) (kept2 : Kept)
         (same_index : asked.index ≡ x.index) (same_sync : asked.sync ≡ x.sync) (leaves : kept2 ≡ after_release p.user h asked.agreed)
         (stands : (q : Picture) (c : Claimed) (before after : List Claimed) → q.claims ≡ before ++ c ∷ after → IsFor p.user_entries x c → c.answered ≡ None → picture.Stands q p.user_entries p.user
-          → picture.Stands (with_claims q (before ++ picture.with_answer asked.agreed c ∷ after)) p.user_entries kept2)
+        → picture.Stands (with_claims q (before ++ picture.with_answer asked.agreed c ∷ after)) p.user_entries kept2)
         (row : (q : Picture) (c : Claimed) (before after : List Claimed) → q.claims ≡ before ++ c ∷ after → IsFor p.user_entries x c → c.answered ≡ None → picture.Stands q p.user_entries p.user → asked.agreed ≡ not c.raced) where
       abbrev Next : Machine
       Next = asked_machine m t (leaving_machine g.forming g.at_byte g.keys g.lets (Some (unasked h y))) (unasked h y) asked.agreed
@@ -150,19 +150,19 @@ module _ (p : Parts) (t : ℕ) (f : Frame) (key : Key) (x : flight.Claim) (task 
 
       happens : event p.scenario want m t ≡ Some Next
       happens = event_is p.scenario want m t (leaving_machine g.forming g.at_byte g.keys g.lets (Some (unasked h y))) kinds.Ask (Some Next) task twin_is next_is
-        (ap Some (asked_machine_is m t (leaving_machine g.forming g.at_byte g.keys g.lets (Some (unasked h y))) (unasked h y) asked.agreed agreed_is))
+          (ap Some (asked_machine_is m t (leaving_machine g.forming g.at_byte g.keys g.lets (Some (unasked h y))) (unasked h y) asked.agreed agreed_is))
 
       counts : picture.Stands (asks.answered_picture p.scenario keys.User (plain_of p) m t range.0 range.1 f.forming f.at f.key f.lets g.forming g.at_byte g.keys g.lets x h y.raced y.back own_is twin_is z.index s asked asked.agreed l same_index same_sync refl alive)
-        p.user_entries (after_release p.user h asked.agreed)
+          p.user_entries (after_release p.user h asked.agreed)
       counts = subst (λ k. picture.Stands (with_claims Q (before_ ++ picture.with_answer asked.agreed (claimed x.sync (unasked h y)) ∷ after_)) p.user_entries k) leaves
-        (stands Q (claimed x.sync (unasked h y)) before_ after_ split (z.index, refl) refl stands_now)
+          (stands Q (claimed x.sync (unasked h y)) before_ after_ split (z.index, refl) refl stands_now)
 
       abbrev NextParts : Plain
       NextParts = asks.then_parts p.scenario keys.User (plain_of p) m t range.0 range.1 f.forming f.at f.key f.lets g.forming g.at_byte g.keys g.lets x h y.raced y.back own_is twin_is z.index s asked asked.agreed l same_index same_sync refl alive
 
       next_stands : StandsFor p.scenario (keys.User ∷ []) NextParts Next
       next_stands = asks.stands_after p.scenario keys.User (plain_of p) m t range.0 range.1 f.forming f.at f.key f.lets g.forming g.at_byte g.keys g.lets x h y.raced y.back own_is twin_is z.index s asked asked.agreed l same_index same_sync refl alive
-        counts (event_keeps p.scenario want t m Next s.fits happens)
+          counts (event_keeps p.scenario want t m Next s.fits happens)
 
       module _ (frames2 : List Working) (tally2 : Tally) (history2 : rows.Entries) (made : ℕ)
           (put : frames2 ≡ with_frame_of (with_frame_of p.frames t None) t (Some (record f { claim = Claiming.Answered key asked }))) (counted : tally2 ≡ one_asked p.tally)
@@ -176,17 +176,17 @@ module _ (p : Parts) (t : ℕ) (f : Frame) (key : Key) (x : flight.Claim) (task 
 
         tasks_then : parts_in p.spaces frames2 ≡ NextParts.tasks
         tasks_then = ap (parts_in p.spaces) put ∙ put_taken p.spaces p.frames t (Some (record f { claim = Claiming.Answered key asked })) (in_frames p m t s task)
-          ∙ ap (λ u. set (parts_in p.spaces p.frames) (t - 1) (with_frame (get_or (parts_in p.spaces p.frames) (t - 1) idle_part) (Some u))) frame_then
+            ∙ ap (λ u. set (parts_in p.spaces p.frames) (t - 1) (with_frame (get_or (parts_in p.spaces p.frames) (t - 1) idle_part) (Some u))) frame_then
 
         made_is : made ≡ number_at p.made.user h
         made_is = number ∙ ap (λ k. number_at (of_key k p.made) h) user
 
         stands_then : StandsFor p.scenario (keys.User ∷ []) (plain_of new_parts) Next
         stands_then = subst (λ k. StandsFor p.scenario (keys.User ∷ []) (plain_of (record new_parts { user = k })) Next) (sym leaves)
-          (subst (λ ts. StandsFor p.scenario (keys.User ∷ []) (record (plain_of (record new_parts { user = after_release p.user h asked.agreed })) { tasks = ts }) Next) (sym tasks_then)
+            (subst (λ ts. StandsFor p.scenario (keys.User ∷ []) (record (plain_of (record new_parts { user = after_release p.user h asked.agreed })) { tasks = ts }) Next) (sym tasks_then)
             (subst (λ y. StandsFor p.scenario (keys.User ∷ []) (record NextParts { tally = y; history = history2.entries; spare = history2.spare }) Next) (sym counted)
-              (subst (λ y. StandsFor p.scenario (keys.User ∷ []) (record NextParts { history = y; spare = history2.spare }) Next) (sym (noted ∙ ap (λ n. noted_release asked.agreed n p.history.entries) made_is))
-                (subst (λ y. StandsFor p.scenario (keys.User ∷ []) (record NextParts { spare = y }) Next) (sym room) next_stands))))
+            (subst (λ y. StandsFor p.scenario (keys.User ∷ []) (record NextParts { history = y; spare = history2.spare }) Next) (sym (noted ∙ ap (λ n. noted_release asked.agreed n p.history.entries) made_is))
+            (subst (λ y. StandsFor p.scenario (keys.User ∷ []) (record NextParts { spare = y }) Next) (sym room) next_stands))))
 
   -- what the calls need
 
@@ -195,18 +195,18 @@ module _ (p : Parts) (t : ℕ) (f : Frame) (key : Key) (x : flight.Claim) (task 
 
   pub ask_live : Reached p → IfSome (handle_at p.user_entries.slots x.index) (λ h. IsSome (live_at p.user.slots h))
   ask_live r = from_reached p _ r (λ m limited s. seen m _ s (λ g y user e z.
-    subst (λ o. IfSome o (λ h. IsSome (live_at p.user.slots h))) (sym z.index) (live_with m s g y user e z _ (λ l alive. subst IsSome (sym alive) refl))))
+      subst (λ o. IfSome o (λ h. IsSome (live_at p.user.slots h))) (sym z.index) (live_with m s g y user e z _ (λ l alive. subst IsSome (sym alive) refl))))
 
   pub ask_other : Reached p → IfSome (handle_at p.user_entries.slots x.index) (λ h. value_at p.user.slots h ≢ Some values.Default)
   ask_other r = from_reached p _ r (λ m limited s. seen m _ s (λ g y user e z.
-    subst (λ o. IfSome o (λ h. value_at p.user.slots h ≢ Some values.Default)) (sym z.index) (is_other m s g y user e z (live_at p.user.slots y.place.handle) (other m s g y user e z))))
+      subst (λ o. IfSome o (λ h. value_at p.user.slots h ≢ Some values.Default)) (sym z.index) (is_other m s g y user e z (live_at p.user.slots y.place.handle) (other m s g y user e z))))
 
   some_live : (xs : List (Option Live)) (i : ℕ) (l : Live) → get_or xs i None ≡ Some l → 1 ≤ count_by is_taken xs
   some_live xs i l e = let a = asks.fewer xs i l e in omega (arith, a)
 
   pub ask_room : Reached p → 1 ≤ p.history.spare
   ask_room r = from_reached p _ r (λ m limited s. seen m _ s (λ g y user e z. live_with m s g y user e z _ (λ l alive.
-    at_least (count_by is_taken p.user.slots) _ _ p.history.spare (some_live p.user.slots y.place.handle l alive) s.room)))
+      at_least (count_by is_taken p.user.slots) _ _ p.history.spare (some_live p.user.slots y.place.handle l alive) s.room)))
     where
       at_least : (a b c d : ℕ) → 1 ≤ a → (a + 0) + b + c ≤ d → 1 ≤ d
       at_least a b c d e f = omega arith
@@ -214,7 +214,7 @@ module _ (p : Parts) (t : ℕ) (f : Frame) (key : Key) (x : flight.Claim) (task 
   pub ask_follows : (asked : Asked) (kept2 : Kept) → asked.index ≡ x.index → asked.sync ≡ x.sync
       → IfSome (handle_at p.user_entries.slots x.index) (λ h. kept2 ≡ after_release p.user h asked.agreed)
       → ((q : Picture) (c : Claimed) (before after : List Claimed) → q.claims ≡ before ++ c ∷ after → IsFor p.user_entries x c → c.answered ≡ None → picture.Stands q p.user_entries p.user
-          → picture.Stands (with_claims q (before ++ picture.with_answer asked.agreed c ∷ after)) p.user_entries kept2)
+      → picture.Stands (with_claims q (before ++ picture.with_answer asked.agreed c ∷ after)) p.user_entries kept2)
       → ((q : Picture) (c : Claimed) (before after : List Claimed) → q.claims ≡ before ++ c ∷ after → IsFor p.user_entries x c → c.answered ≡ None → picture.Stands q p.user_entries p.user → asked.agreed ≡ not c.raced)
       → (frames2 : List Working) (tally2 : Tally) (history2 : rows.Entries) (made handle : ℕ)
       → frames2 ≡ with_frame_of (with_frame_of p.frames t None) t (Some (record f { claim = Claiming.Answered key asked })) → tally2 ≡ one_asked p.tally
@@ -226,11 +226,13 @@ module _ (p : Parts) (t : ℕ) (f : Frame) (key : Key) (x : flight.Claim) (task 
     where
       event_then : IsEvent p.scenario kinds.Ask t (plain_of p) (plain_of (record p { frames = frames2; user = kept2; tally = tally2; history = history2 }))
       event_then want m st = seen m _ st.1 (λ g y user e z. live_with m st.1 g y user e z _ (λ l alive.
-        let left : kept2 ≡ after_release p.user y.place.handle asked.agreed = subst (λ o. IfSome o (λ h. kept2 ≡ after_release p.user h asked.agreed)) z.index leaves in
-        let same : handle ≡ y.place.handle = one_handle (sym at ∙ z.index) in
-        (Next m st.1 g y user e z want st.0 l alive asked kept2 same_index same_sync left stands row, happens m st.1 g y user e z want st.0 l alive asked kept2 same_index same_sync left stands row,
-          next_is m st.1 g y user e z want st.0 l alive asked kept2 same_index same_sync left stands row,
-          (st.0, stands_then m st.1 g y user e z want st.0 l alive asked kept2 same_index same_sync left stands row frames2 tally2 history2 made put counted (number ∙ ap (number_at (of_key key p.made)) same) noted room))))
+          let left : kept2 ≡ after_release p.user y.place.handle asked.agreed = subst (λ o. IfSome o (λ h. kept2 ≡ after_release p.user h asked.agreed)) z.index leaves in
+          let same : handle ≡ y.place.handle = one_handle (sym at ∙ z.index) in (
+            Next m st.1 g y user e z want st.0 l alive asked kept2 same_index same_sync left stands row,
+            happens m st.1 g y user e z want st.0 l alive asked kept2 same_index same_sync left stands row,
+            next_is m st.1 g y user e z want st.0 l alive asked kept2 same_index same_sync left stands row,
+            (st.0, stands_then m st.1 g y user e z want st.0 l alive asked kept2 same_index same_sync left stands row frames2 tally2 history2 made put counted (number ∙ ap (number_at (of_key key p.made)) same) noted room),
+          )))
 
 -- questions are few
 pub asks_few : (p : Parts) → Reached p → p.tally.asks < 2 ^ 63

@@ -12,7 +12,9 @@ use Rattle.vch_value.proofs.Starts.{starts}
 use Rattle.vch_model.specs.Scenarios.{IsLimited, line_count}
 use Rattle.vch_model.specs.declared.lists.Scenario.{Scenario}
 use Rattle.vch_machine.specs.State as machine
-use Rattle.vch_machine.specs.State.{Tasked, Machine, idle, tasked}
+use Rattle.vch_machine.specs.State.{Keyed, Tasked, Machine, idle, tasked}
+use Rattle.vch_model.specs.Rows as rows
+use Rattle.vch_table.specs.declared.table.Cell.{Cell}
 use Rattle.vch_machine.specs.Next.{current, nth_call}
 use Rattle.vch_legal.proofs.Keeps.{start_keeps}
 use Rattle.vch_state.specs.declared.frames.Working.{Working}
@@ -71,11 +73,11 @@ no_claims (x ∷ flags) = no_claims flags
 
 no_referred : (s : ℕ) (flags : List Flags) → referred_by s (rests flags) ≡ 0
 no_referred s [] = refl
-no_referred s (x ∷ flags) = no_referred s flags
+no_referred s (x ∷ flags) = let e : referred_by s (rests flags) ≡ 0 = no_referred s flags in omega (arith, e)
 
 no_rank : (sc : Scenario) (t : ℕ) (flags : List Flags) → total_rank sc t (idles flags) ≡ 0
 no_rank sc t [] = refl
-no_rank sc t (x ∷ flags) = no_rank sc (t + 1) flags
+no_rank sc t (x ∷ flags) = let e : total_rank sc (t + 1) (idles flags) ≡ 0 = no_rank sc (t + 1) flags in omega (arith, e)
 
 pub limited_of : (sc : Scenario) → IsLimited sc → Limited sc
 limited_of sc l = record { tasks = l.tasks; phases = l.phases; calls = omega (arith, l.calls) }
@@ -96,13 +98,13 @@ module _ (sc : Scenario) (c : Plain) (limited : IsLimited sc)
 
   counts : picture.Stands (picture_of keys.User c (machine.start sc)) c.keyed.user.entries c.keyed.user.kept
   counts = subst (λ (p : Picture). picture.Stands p c.keyed.user.entries c.keyed.user.kept) (sym picture_empty)
-    (subst (λ e. picture.Stands empty e c.keyed.user.kept) (sym (entries_are c.keyed.user.entries entries))
+      (subst (λ e. picture.Stands empty e c.keyed.user.kept) (sym (entries_are c.keyed.user.entries entries))
       (subst (λ k. picture.Stands empty (record { slots = []; spare = c.keyed.user.entries.spare }) k) (sym kept)
-        (starts c.keyed.user.entries.spare (record { slots = []; free = []; ledgers = []; asked = 0; rules = user_rules }) (λ h m e. absurd (cc)))))
+      (starts c.keyed.user.entries.spare (record { slots = []; free = []; ledgers = []; asked = 0; rules = user_rules }) (λ h m e. absurd (cc)))))
 
   every_task : (t : ℕ) → IsTask c (current sc (machine.start sc) t) (part_of c t) (tasked (machine.start sc) t)
   every_task t = subst (λ x. IsTask c (current sc (machine.start sc) t) x (tasked (machine.start sc) t)) (sym (ap (λ ts. get_or ts (t - 1) idle_part) tasks ∙ rest_at sc.flags (t - 1)))
-    (subst (λ (y : Tasked). IsTask c (nth_call sc t y.begun) idle_part y) (sym (idle_at sc.flags (t - 1)))
+      (subst (λ (y : Tasked). IsTask c (nth_call sc t y.begun) idle_part y) (sym (idle_at sc.flags (t - 1)))
       (record { names = tt; next = refl; queue = tt; begun = refl; frame = tt }))
 
   pub start_stands : StandsFor sc (keys.User ∷ []) c (machine.start sc)
@@ -133,3 +135,25 @@ module _ (sc : Scenario) (c : Plain) (limited : IsLimited sc)
 
       done_none : 0 + 0 + total_rank sc 1 (idles sc.flags) ≤ 100000 * total_begun (idles sc.flags)
       done_none = zero_work (total_rank sc 1 (idles sc.flags)) (total_begun (idles sc.flags)) (no_rank sc 1 sc.flags)
+
+-- a new core, by what its parts were made of
+pub new_core : (sc : Scenario) (limited : IsLimited sc) (spaces : List Names) (frames : List Working) (a b : ℕ) (user : Kept) (entries : Entries) (table : List (Option Cell)) (made : Keyed (List ℕ)) (history : rows.Entries) (calls phases : ℕ)
+    → length spaces ≡ a → a ≡ length sc.flags → AreFresh spaces → frames ≡ all_resting b → b ≡ length sc.flags
+    → user ≡ record { slots = []; free = []; ledgers = []; asked = 0; rules = user_rules } → entries.slots ≡ [] → table ≡ [] → history.entries ≡ []
+    → calls ≡ line_count sc.phases → phases ≡ length sc.phases → calls + phases ≤ history.spare
+    → IsState sc (plain_of (record { scenario = sc; phase = 0; frames = frames; user = user; user_entries = entries; vouchers = table; spaces = spaces; tally = record { claims = 0; refers = 0; asks = 0 }; made = made; history = history })) (machine.start sc)
+unfolding IsState
+new_core sc limited spaces frames a b user entries table made history calls phases long count fresh frames_are count2 user_is entries_are table_is history_is calls_are phases_are room = (
+  limited_of sc limited,
+  start_stands sc _ limited (ap (parts_in spaces) (frames_are ∙ ap all_resting count2) ∙ parts_fresh spaces sc.flags (long ∙ count) fresh) table_is history_is refl refl refl refl entries_are user_is
+      (subst (λ n. n + length sc.phases ≤ history.spare) calls_are (subst (λ n. calls + n ≤ history.spare) phases_are room)),
+)
+
+-- a state at the start is the end of the run without a move
+pub at_start : (sc : Scenario) (c : Plain) → IsState sc c (machine.start sc) → IsEnd sc c
+unfolding IsEnd
+at_start sc c s = ([], machine.start sc, refl, s)
+
+-- the same for a scenario that is equal
+pub moved_start : (a b : Scenario) (c : Plain) → a ≡ b → IsState a c (machine.start a) → IsState a c (machine.start b)
+moved_start a b c e s = subst (λ x. IsState a c (machine.start x)) e s

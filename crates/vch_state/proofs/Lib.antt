@@ -19,3 +19,5 @@ pub mod Unused
 pub mod Rechecks
 pub mod RechecksEvent
 pub mod FromStart
+pub mod Loops
+pub mod RunOn

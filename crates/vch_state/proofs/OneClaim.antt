@@ -75,7 +75,7 @@ module _ (sc : Scenario) (k : Key) (c : Plain) (m : Machine) (t : ℕ) (positive
   pub alone : claims_at h P.claims ≡ own_claim ∷ []
   alone =
       let o = only (entry_of (of_key k c.keyed).entries.slots h) (claims_at h (claims_before k c m t)) (claims_at h (claims_behind k c m t)) own_claim
-        (subst (IsClaimed (entry_of (of_key k c.keyed).entries.slots h)) claims_are here.claimed) in
+      (subst (IsClaimed (entry_of (of_key k c.keyed).entries.slots h)) claims_are here.claimed) in
       claims_are ∙ rw (o.0, o.1) refl
 
   pub meets : Meets (count h P.holders) (flags_at h P.receipts) (own_claim ∷ []) (live_at (of_key k c.keyed).kept.slots h) (entry_of (of_key k c.keyed).entries.slots h)

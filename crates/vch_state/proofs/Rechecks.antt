@@ -122,7 +122,7 @@ module _ (sc : Scenario) (k : Key) (c : Plain) (m : Machine) (t : ℕ) (positive
 
       shape_after : Shape sc then_parts then_machine
       shape_after = shape_then sc c m t positive inside s.shape then_parts then_machine (closed F2) (frames.closed G2) refl refl refl steady.others
-        (record { names = steady.own.names; next = steady.own.next; queue = steady.own.queue; begun = steady.own.begun; frame = closed_frames then_parts (current sc m t) F2 G2 new_frame })
+          (record { names = steady.own.names; next = steady.own.next; queue = steady.own.queue; begun = steady.own.begun; frame = closed_frames then_parts (current sc m t) F2 G2 new_frame })
 
       again_is : (o : Option flight.Claim) → claimed_of k (claiming k o) (told_claim o) ++ claims_behind k c m t ≡ again h o P.receipts (claims_behind k c m t)
       again_is None = refl
@@ -131,7 +131,7 @@ module _ (sc : Scenario) (k : Key) (c : Plain) (m : Machine) (t : ℕ) (positive
       picture_after : picture_of k then_parts then_machine ≡ with_claims P (claims_before k c m t ++ again h o P.receipts (claims_behind k c m t))
       picture_after =
           one.picture_after sc k c m t positive inside v at key ls w place keys rest (Claiming.Answered k x) y own task refl s then_parts then_machine (closed F2) (frames.closed G2) (claiming k o) (told_claim o)
-            refl refl steady.cells (holds_closed k G2) (receipts_closed k F2) (claimed_closed then_parts (current sc m t) k F2 G2 new_frame)
+          refl refl steady.cells (holds_closed k G2) (receipts_closed k F2) (claimed_closed then_parts (current sc m t) k F2 G2 new_frame)
           ∙ ap (λ cs. with_claims P (claims_before k c m t ++ cs)) (again_is o)
 
       abbrev now : KeyParts
@@ -145,13 +145,16 @@ module _ (sc : Scenario) (k : Key) (c : Plain) (m : Machine) (t : ℕ) (positive
 
       pub stands_after : Fits sc then_machine → StandsFor sc (k ∷ []) then_parts then_machine
       stands_after fits = record {
-        keyed = (record {
-          living = λ i. rw is_new (s.keyed.0.living i);
-          free = rw is_new s.keyed.0.free;
-          used = rw is_new s.keyed.0.used;
-          row = rw is_new s.keyed.0.row;
-          counts = rw is_new (subst (λ (q : Picture). picture.Stands q e2 (of_key k c.keyed).kept) (sym picture_after) counts);
-        }, tt);
+        keyed = (
+          record {
+            living = λ i. rw is_new (s.keyed.0.living i);
+            free = rw is_new s.keyed.0.free;
+            used = rw is_new s.keyed.0.used;
+            row = rw is_new s.keyed.0.row;
+            counts = rw is_new (subst (λ (q : Picture). picture.Stands q e2 (of_key k c.keyed).kept) (sym picture_after) counts);
+          },
+          tt,
+        );
         shape = shape_after;
         history = s.history;
         phase = s.phase;
@@ -159,7 +162,7 @@ module _ (sc : Scenario) (k : Key) (c : Plain) (m : Machine) (t : ℕ) (positive
         asked = rw is_new s.asked;
         room = rw is_new s.room;
         spent = spent_then sc m then_machine t (frames.closed G2) positive inside_tasks refl
-          (subst (λ a. (m.tally.claims + m.tally.refers) + a ≤ (m.tally.claims + m.tally.refers) + rank (current sc m t) (tasked m t).frame) (sym (rank_closed (current sc m t) G2))
+            (subst (λ a. (m.tally.claims + m.tally.refers) + a ≤ (m.tally.claims + m.tally.refers) + rank (current sc m t) (tasked m t).frame) (sym (rank_closed (current sc m t) G2))
             (subst (λ u. (m.tally.claims + m.tally.refers) + rank (current sc m t) (Some G2) ≤ (m.tally.claims + m.tally.refers) + rank (current sc m t) u) (sym task) (more (m.tally.claims + m.tally.refers) _ _ less_work))) s.spent;
         fits = fits;
       }

@@ -139,7 +139,7 @@ module _ (p : Parts) (t : ℕ) (f : Frame) (key : Key) (x : Asked) (task : is_ta
   seen : (m : Machine) (A : Type 0) → StandsFor p.scenario (keys.User ∷ []) (plain_of p) m
       → ((g : machine.Frame) (y : machine.Claim) → key ≡ keys.User → (tasked m t).frame ≡ Some g → Answering p f x g y → A) → A
   seen m A s h = twin_of p.scenario (keys.User ∷ []) (plain_of p) m t f A s task (own_frame p m t s task ∙ own)
-    (λ g e r. answering_of p (current p.scenario m t) f key x g A r told claim (λ y user z. h g y user e z))
+      (λ g e r. answering_of p (current p.scenario m t) f key x g A r told claim (λ y user z. h g y user e z))
 
   module _ (m : Machine) (s : StandsFor p.scenario (keys.User ∷ []) (plain_of p) m) (g : machine.Frame) (y : machine.Claim) (user : key ≡ keys.User) (e : (tasked m t).frame ≡ Some g) (z : Answering p f x g y) where
     abbrev h : ℕ
@@ -199,9 +199,9 @@ module _ (p : Parts) (t : ℕ) (f : Frame) (key : Key) (x : Asked) (task : is_ta
       steady_kept handles = record {
         others = λ u n q i. task_stays (plain_of p) D stable refl (current p.scenario m u) (part_of (plain_of p) u) (tasked m u) (s.shape.tasks u q i);
         own = (let w : IsTask D (current p.scenario m t) (part_of (plain_of p) t) (tasked m t) = task_stays (plain_of p) D stable refl (current p.scenario m t) (part_of (plain_of p) t) (tasked m t) (s.shape.tasks t range.0 range.1) in
-          record { names = w.names; next = w.next; queue = w.queue; begun = w.begun; frame = tt });
+            record { names = w.names; next = w.next; queue = w.queue; begun = w.begun; frame = tt });
         frame = (let w = frame_stays (plain_of p) D stable refl (current p.scenario m t) _ _ old_frame in
-          record { forming = w.forming; at_byte = w.at_byte; keys_ = w.keys_; receipt = w.receipt; lets = w.lets; claim = tt });
+            record { forming = w.forming; at_byte = w.at_byte; keys_ = w.keys_; receipt = w.receipt; lets = w.lets; claim = tt });
         cells = cells_same (plain_of p) D keys.User (λ i. all_handles i keys.User) p.vouchers;
       }
         where
@@ -230,12 +230,12 @@ module _ (p : Parts) (t : ℕ) (f : Frame) (key : Key) (x : Asked) (task : is_ta
 
         claims_split : claims_on m gone ≡ before (λ (a : Tasked). frame_claims a.frame gone) m.tasks (t - 1) ++ (Y ∷ behind (λ (a : Tasked). frame_claims a.frame gone) m.tasks (t - 1))
         claims_split = all_split (λ (a : Tasked). frame_claims a.frame gone) m.tasks (t - 1) idle inside_tasks
-          ∙ ap (λ xs. before (λ (a : Tasked). frame_claims a.frame gone) m.tasks (t - 1) ++ (xs ++ behind (λ (a : Tasked). frame_claims a.frame gone) m.tasks (t - 1))) own_claims
+            ∙ ap (λ xs. before (λ (a : Tasked). frame_claims a.frame gone) m.tasks (t - 1) ++ (xs ++ behind (λ (a : Tasked). frame_claims a.frame gone) m.tasks (t - 1))) own_claims
 
         no_claim : (u : ℕ) → u - 1 ≢ t - 1 → frame_claims (tasked m u).frame gone ≡ []
         no_claim u n = lone_those keys.User h (claims_at h (picture_of keys.User (plain_of p) m).claims) (claimed x.sync Y) (claims_on m gone) _
-          (ap (λ (q : Picture). claims_at h q.claims) is_now ∙ alone) (claims_those keys.User h p.scenario (plain_of p) m s.shape)
-          (λ v r. let b = lone _ _ Y v (sym claims_split ∙ r) in others_empty (λ (a : Tasked). frame_claims a.frame gone) idle refl m.tasks (t - 1) (u - 1) b.0 b.1 n)
+            (ap (λ (q : Picture). claims_at h q.claims) is_now ∙ alone) (claims_those keys.User h p.scenario (plain_of p) m s.shape)
+            (λ v r. let b = lone _ _ Y v (sym claims_split ∙ r) in others_empty (λ (a : Tasked). frame_claims a.frame gone) idle refl m.tasks (t - 1) (u - 1) b.0 b.1 n)
 
         other_index : (i j : ℕ) → same_place (record { key = keys.User; handle = j }) gone ≡ false → handle_at p.user_entries.slots i ≡ Some j → i ≢ x.index
         other_index i j n r = λ q. differ (sym r ∙ ap (handle_at p.user_entries.slots) q ∙ z.index)
@@ -245,7 +245,7 @@ module _ (p : Parts) (t : ℕ) (f : Frame) (key : Key) (x : Asked) (task : is_ta
 
         stable : (q : Key) (i j : ℕ) → same_place (record { key = q; handle = j }) gone ≡ false → IsIndexOf (plain_of p) q i j → IsIndexOf D q i j
         stable q i j n r = each_key (λ q kp. same_place (record { key = q; handle = j }) gone ≡ false → handle_at (slots_of (plain_of p) q) i ≡ Some j → handle_at kp.entries.slots i ≡ Some j)
-          (with_frame_at (plain_of p) t (closed (leaving_frame f.forming f.at f.key f.lets (claiming keys.User o)))) keys.User e2 p.user (λ n r. writes i (other_index i j n r) ∙ r) (λ q n r. r) q n r
+            (with_frame_at (plain_of p) t (closed (leaving_frame f.forming f.at f.key f.lets (claiming keys.User o)))) keys.User e2 p.user (λ n r. writes i (other_index i j n r) ∙ r) (λ q n r. r) q n r
 
         own_free : (task_holds gone (framed (tasked m t) None) ≡ false) × (frame_holds (Some (leaving_machine g.forming g.at_byte g.keys g.lets None)) gone ≡ false)
         own_free =
@@ -264,28 +264,29 @@ module _ (p : Parts) (t : ℕ) (f : Frame) (key : Key) (x : Asked) (task : is_ta
         steady_gone = record {
           others = λ u n q i. task_unused (plain_of p) D gone stable refl (current p.scenario m u) (part_of (plain_of p) u) (tasked m u) (no_holder (u - 1)) (no_claim u n) (s.shape.tasks u q i);
           own = task_unused (plain_of p) D gone stable refl (current p.scenario m t) (with_frame (part_of (plain_of p) t) None) (framed (tasked m t) None) own_free.0 refl
-            (let w = s.shape.tasks t range.0 range.1 in record { names = w.names; next = w.next; queue = w.queue; begun = w.begun; frame = tt });
+              (let w = s.shape.tasks t range.0 range.1 in record { names = w.names; next = w.next; queue = w.queue; begun = w.begun; frame = tt });
           frame = frame_unused (plain_of p) D gone stable refl (current p.scenario m t) _ _ own_free.1 refl
-            (record { forming = old_frame.forming; at_byte = old_frame.at_byte; keys_ = old_frame.keys_; receipt = old_frame.receipt; lets = old_frame.lets; claim = tt });
+              (record { forming = old_frame.forming; at_byte = old_frame.at_byte; keys_ = old_frame.keys_; receipt = old_frame.receipt; lets = old_frame.lets; claim = tt });
           cells = cells_stay (plain_of p) D keys.User h (λ i n. writes i (λ q. n (ap (handle_at p.user_entries.slots) q ∙ z.index))) p.vouchers no_cells;
         }
 
       -- the two cases of the call
       steady : IsApart p.user_entries.slots → Rechecks p.user_entries x o e2 → Same × ((w : flight.Claim) → o ≡ Some w → IsIndexOf D keys.User w.index h)
       steady apart call = entry_of_handle p.user_entries.slots x.index h _ z.index (λ en at same.
-        let answer : (o ≡ claim_again x.index (check_answer en x.sync x.agreed)) × Writes p.user_entries.slots e2.slots x.index (checked en x.sync x.agreed) × (p.user_entries.spare ≤ e2.spare) =
+          let answer : (o ≡ claim_again x.index (check_answer en x.sync x.agreed)) × Writes p.user_entries.slots e2.slots x.index (checked en x.sync x.agreed) × (p.user_entries.spare ≤ e2.spare) =
           subst (λ q. IfSome q (λ en. (o ≡ claim_again x.index (check_answer en x.sync x.agreed)) × Writes p.user_entries.slots e2.slots x.index (checked en x.sync x.agreed) × (p.user_entries.spare ≤ e2.spare))) at call in
-        let written : (i : ℕ) → i ≢ x.index → handle_at e2.slots i ≡ handle_at p.user_entries.slots i = λ i n. ap handle_of (answer.1.others i n) in
-        checked_cases en x.sync x.agreed _
-          (λ gone same_made freed.
-            (steady_gone written (meets.marked.unheld (meets.marked.back ∙ ap (λ q. not (made_of q == x.sync)) (entry_here en apart at same ∙ at) ∙ ap not same_made)),
-              λ w q. absurd (no_claim_then (sym (answer.0 ∙ ap (claim_again x.index) freed) ∙ q))))
+          let written : (i : ℕ) → i ≢ x.index → handle_at e2.slots i ≡ handle_at p.user_entries.slots i = λ i n. ap handle_of (answer.1.others i n) in
+          checked_cases en x.sync x.agreed _
+          (λ gone same_made freed. (
+            steady_gone written (meets.marked.unheld (meets.marked.back ∙ ap (λ q. not (made_of q == x.sync)) (entry_here en apart at same ∙ at) ∙ ap not same_made)),
+            λ w q. absurd (no_claim_then (sym (answer.0 ∙ ap (claim_again x.index) freed) ∙ q)),
+          ))
           (λ stays.
-            let all : (i : ℕ) → handle_at e2.slots i ≡ handle_at p.user_entries.slots i = λ i. elim (cases_eq i x.index) [
-                | inl r ↦ subst (λ j. handle_at e2.slots j ≡ handle_at p.user_entries.slots j) (sym r) (ap handle_of answer.1.here ∙ stays ∙ sym (ap handle_of at))
-                | inr n ↦ written i n
-              ] in
-            (steady_kept all, λ w q. subst (λ i. handle_at e2.slots i ≡ Some h) (sym (again_index (check_answer en x.sync x.agreed) w (sym answer.0 ∙ q))) (all x.index ∙ z.index))))
+          let all : (i : ℕ) → handle_at e2.slots i ≡ handle_at p.user_entries.slots i = λ i. elim (cases_eq i x.index) [
+            | inl r ↦ subst (λ j. handle_at e2.slots j ≡ handle_at p.user_entries.slots j) (sym r) (ap handle_of answer.1.here ∙ stays ∙ sym (ap handle_of at))
+            | inr n ↦ written i n
+          ] in
+          (steady_kept all, λ w q. subst (λ i. handle_at e2.slots i ≡ Some h) (sym (again_index (check_answer en x.sync x.agreed) w (sym answer.0 ∙ q))) (all x.index ∙ z.index))))
         where
           no_claim_then : {w : flight.Claim} → None ≡ Some w → ⊥
           no_claim_then q = cc
@@ -300,7 +301,7 @@ module _ (p : Parts) (t : ℕ) (f : Frame) (key : Key) (x : Asked) (task : is_ta
 
       module _ (want : Bool) (limited : Limited p.scenario) (apart : IsApart p.user_entries.slots) (call : Rechecks p.user_entries x o e2)
           (stands : (q : Picture) (kept : Kept) (c : Claimed) (before after : List Claimed) → q.claims ≡ before ++ c ∷ after → IsAnswered p.user_entries x c → picture.Stands q p.user_entries kept
-            → picture.Stands (with_claims q (before ++ again c.handle o q.receipts after)) e2 kept)
+          → picture.Stands (with_claims q (before ++ again c.handle o q.receipts after)) e2 kept)
           (row : (q : Picture) (kept : Kept) (c : Claimed) (before after : List Claimed) → q.claims ≡ before ++ c ∷ after → IsAnswered p.user_entries x c → picture.Stands q p.user_entries kept → is_some o ≡ takes_again c q) where
         abbrev Next : Machine
         Next = rechecks.then_machine p.scenario keys.User (plain_of p) m t range.0 range.1 f.forming f.at f.key f.lets g.forming g.at_byte g.keys g.lets x h y.raced y.back own_is twin_is s e2 o
@@ -313,14 +314,14 @@ module _ (p : Parts) (t : ℕ) (f : Frame) (key : Key) (x : Asked) (task : is_ta
 
         happens : event p.scenario want m t ≡ Some Next
         happens = event_is p.scenario want m t (leaving_machine g.forming g.at_byte g.keys g.lets (Some Y)) kinds.Recheck (Some Next) task twin_is next_is
-          (ap (λ c. Some (frames.with_frame m t (frames.closed (leaving_machine g.forming g.at_byte g.keys g.lets c))))
+            (ap (λ c. Some (frames.with_frame m t (frames.closed (leaving_machine g.forming g.at_byte g.keys g.lets c))))
             (rechecks.claim_is p.scenario keys.User (plain_of p) m t range.0 range.1 f.forming f.at f.key f.lets g.forming g.at_byte g.keys g.lets x h y.raced y.back own_is twin_is s o told_row))
 
         next_stands : StandsFor p.scenario (keys.User ∷ []) D Next
         next_stands = rechecks.stands_after p.scenario keys.User (plain_of p) m t range.0 range.1 f.forming f.at f.key f.lets g.forming g.at_byte g.keys g.lets x h y.raced y.back own_is twin_is s e2 o
-          (steady apart call).0 (steady apart call).1
-          (stands P p.user (claimed x.sync Y) (claims_before keys.User (plain_of p) m t) (claims_behind keys.User (plain_of p) m t) split (z.index, refl, refl) stands_now)
-          (event_keeps p.scenario want t m Next s.fits happens)
+            (steady apart call).0 (steady apart call).1
+            (stands P p.user (claimed x.sync Y) (claims_before keys.User (plain_of p) m t) (claims_behind keys.User (plain_of p) m t) split (z.index, refl, refl) stands_now)
+            (event_keeps p.scenario want t m Next s.fits happens)
 
         module _ (frames2 : List Working) (put : frames2 ≡ with_frame_of (with_frame_of p.frames t None) t (closed (record f { claim = claiming key o }))) where
           abbrev new_parts : Parts
@@ -331,7 +332,7 @@ module _ (p : Parts) (t : ℕ) (f : Frame) (key : Key) (x : Asked) (task : is_ta
 
           tasks_then : parts_in p.spaces frames2 ≡ D.tasks
           tasks_then = ap (parts_in p.spaces) put ∙ put_taken p.spaces p.frames t (closed (record f { claim = claiming key o })) (in_frames p m t s task)
-            ∙ ap (λ u. set (parts_in p.spaces p.frames) (t - 1) (with_frame (get_or (parts_in p.spaces p.frames) (t - 1) idle_part) (closed u))) frame_then
+              ∙ ap (λ u. set (parts_in p.spaces p.frames) (t - 1) (with_frame (get_or (parts_in p.spaces p.frames) (t - 1) idle_part) (closed u))) frame_then
 
           stands_then : StandsFor p.scenario (keys.User ∷ []) (plain_of new_parts) Next
           stands_then = subst (λ ts. StandsFor p.scenario (keys.User ∷ []) (record (plain_of new_parts) { tasks = ts }) Next) (sym tasks_then) next_stands
@@ -344,7 +345,7 @@ module _ (p : Parts) (t : ℕ) (f : Frame) (key : Key) (x : Asked) (task : is_ta
 
   pub recheck_follows : (e2 : Entries) (o : Option flight.Claim) → IsApart p.user_entries.slots → Rechecks p.user_entries x o e2
       → ((q : Picture) (kept : Kept) (c : Claimed) (before after : List Claimed) → q.claims ≡ before ++ c ∷ after → IsAnswered p.user_entries x c → picture.Stands q p.user_entries kept
-          → picture.Stands (with_claims q (before ++ again c.handle o q.receipts after)) e2 kept)
+      → picture.Stands (with_claims q (before ++ again c.handle o q.receipts after)) e2 kept)
       → ((q : Picture) (kept : Kept) (c : Claimed) (before after : List Claimed) → q.claims ≡ before ++ c ∷ after → IsAnswered p.user_entries x c → picture.Stands q p.user_entries kept → is_some o ≡ takes_again c q)
       → (frames2 : List Working) → frames2 ≡ with_frame_of (with_frame_of p.frames t None) t (closed (record f { claim = claiming key o }))
       → Follows kinds.Recheck t p (record p { frames = frames2; user_entries = e2 })
@@ -352,6 +353,9 @@ module _ (p : Parts) (t : ℕ) (f : Frame) (key : Key) (x : Asked) (task : is_ta
   recheck_follows e2 o apart call stands row frames2 put = record { scenario = refl; event = event_then }
     where
       event_then : IsEvent p.scenario kinds.Recheck t (plain_of p) (plain_of (record p { frames = frames2; user_entries = e2 }))
-      event_then want m st = seen m _ st.1 (λ g y user e z.
-        (Next m st.1 g y user e z e2 o want st.0 apart call stands row, happens m st.1 g y user e z e2 o want st.0 apart call stands row, next_is m st.1 g y user e z e2 o want st.0 apart call stands row,
-          (st.0, stands_then m st.1 g y user e z e2 o want st.0 apart call stands row frames2 put)))
+      event_then want m st = seen m _ st.1 (λ g y user e z. (
+        Next m st.1 g y user e z e2 o want st.0 apart call stands row,
+        happens m st.1 g y user e z e2 o want st.0 apart call stands row,
+        next_is m st.1 g y user e z e2 o want st.0 apart call stands row,
+        (st.0, stands_then m st.1 g y user e z e2 o want st.0 apart call stands row frames2 put),
+      ))

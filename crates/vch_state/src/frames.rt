@@ -82,4 +82,3 @@ impl Frames {
         self.items[task as usize - 1].frame = frame;
     }
 }
-

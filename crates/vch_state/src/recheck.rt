@@ -20,8 +20,7 @@ pub fn recheck(parts: &mut Parts, task: u32)
     let Some(mut frame) = parts.frames.take(task) else {
         return;
     };
-    let Claiming::Answered { key, asked } = mem::replace(&mut frame.claim, Claiming::Nothing)
-    else {
+    let Claiming::Answered { key, asked } = mem::replace(&mut frame.claim, Claiming::Nothing) else {
         return;
     };
     let claim = vch_value::recheck(&mut parts.user_entries, asked);

@@ -13,5 +13,5 @@ recheck-claim-requires-clause-within c =
 pub returns : goal.returns
 returns c =
     recheck_follows c.args.parts.now c.args.task c.in-Some.frame c.in-Answered.key c.in-Answered.asked c.requires.task c.requires.next (sym c.take.ensures.frame ∙ c.in-Some.is) (sym c.replace.ensures.value ∙ c.in-Answered.is)
-      c.recheck-claim.new.entries c.recheck-claim.result c.know.ensures c.recheck-claim.ensures.call c.recheck-claim.ensures.stands c.recheck-claim.ensures.row
-      c.put.new.self (c.put.ensures ∙ rw (c.take.ensures.gone, c.closed.ensures, c.claiming-frame.ensures) refl)
+    c.recheck-claim.new.entries c.recheck-claim.result c.know.ensures c.recheck-claim.ensures.call c.recheck-claim.ensures.stands c.recheck-claim.ensures.row
+    c.put.new.self (c.put.ensures ∙ rw (c.take.ensures.gone, c.closed.ensures, c.claiming-frame.ensures) refl)
