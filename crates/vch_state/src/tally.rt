@@ -1,0 +1,30 @@
+ghost use Rattle.std.specs.Prelude.{◌≡◌, ◌<◌, ◌^◌};
+ghost use Rattle.vch_state.specs.Moves.{more_claims, one_asked};
+
+use vch_value::Claim;
+
+/// How many claims were taken by a LetGo, references by a Refer, and questions asked by an Ask.
+#[derive(Clone, Copy, Debug, PartialEq, Eq)]
+pub struct Tally {
+    pub claims: u64,
+    pub refers: u64,
+    pub asks: u64,
+}
+
+/// Counts a claim, if one was taken.
+pub fn count_claim(tally: &mut Tally, claim: &Option<Claim>)
+    requires { tally.old.claims < 2 ^ 63 }
+    ensures { tally.new ≡ more_claims claim.now tally.old }
+{
+    if claim.is_some() {
+        tally.claims += 1;
+    }
+}
+
+/// Counts a question.
+pub fn count_question(tally: &mut Tally)
+    requires { tally.old.asks < 2 ^ 63 }
+    ensures { tally.new ≡ one_asked tally.old }
+{
+    tally.asks += 1;
+}
