@@ -23,6 +23,8 @@ mod laws;
 mod lines;
 mod numbers;
 mod push;
+#[cfg(test)]
+mod tests;
 mod words;
 
 pub use digits::{HexFault, hex_bytes};

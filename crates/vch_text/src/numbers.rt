@@ -32,7 +32,8 @@ pub fn number(word: &[u8]) -> Option<u64>
     ensures { Finds (λ n. n) result (numbers.number_of top word.now) }
 {
     match word {
-        [] | [b'0', _, ..] => None,
+        [] => None,
+        [b'0', _, ..] => None,
         _ => digits(word),
     }
 }

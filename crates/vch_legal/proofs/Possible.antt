@@ -1,0 +1,298 @@
+-- Where a task has a next event, it can happen.
+use Rattle.std.proofs.Common.{◌≡◌, ℕ, zero, suc, ◌+◌, ◌-◌, ◌<◌, ◌≤◌, Bool, List, [], ◌∷◌, refl, true, false, ◌&&◌, ◌||◌, arith, sym, ap, ◌∙◌, subst, length, drop, Some, None, Option}
+use Rattle.std.specs.Prelude.{if◌then◌else◌, ◌==◌, nat_lt, nat_le, is_some, slice_get}
+use Rattle.std.specs.List.{filter}
+use Rattle.vch_base.specs.declared.key.Key.{Key}
+use Rattle.vch_base.specs.declared.kind.Kind.{Kind}
+use Rattle.vch_base.specs.declared.kind.Kind.TheVariants as kinds
+use Rattle.vch_base.specs.declared.value.Value.{Value}
+use Rattle.vch_base.specs.Keys.{key_of}
+use Rattle.vch_recipe.specs.Recipes.{First, One, End, HeaderCut, ContentCut, first_of}
+use Rattle.vch_model.specs.declared.call.Call.{Call}
+use Rattle.vch_model.specs.declared.call.Call.TheVariants as calls
+use Rattle.vch_model.specs.declared.call.Line.{Line}
+use Rattle.vch_model.specs.declared.lists.Scenario.{Scenario}
+use Rattle.vch_model.specs.Voucher.{Voucher}
+use Rattle.vch_model.specs.Store.{Member}
+use Rattle.vch_model.specs.Legal.{asks}
+use Rattle.vch_model.specs.Lines.{is_task, phases_in, lines_of, lines_until}
+use Rattle.vch_machine.specs.State.{Handles, Place, Living, Named, Claim, Frame, Machine, tasked, member_of, is_empty}
+use Rattle.vch_machine.specs.Beginning.{begin_line, is_full}
+use Rattle.vch_machine.specs.Events.{event, event_of, frame_event, on_formed, on_place, on_lets, on_the_claim}
+use Rattle.vch_machine.specs.Leaving.{do_let_go, do_ask, do_recheck}
+use Rattle.vch_machine.specs.Making.{Asked, asked_by, asked_first, asked_record, asked_transfer, make_asked}
+use Rattle.vch_machine.specs.Next.{next_kind, task_next, nth_call, call_in, known_name, first_next, call_next, formed_next, lets_next, unclaimed_next, frame_next}
+use Rattle.vch_machine.specs.Placing.{do_place}
+use Rattle.vch_legal.specs.Facts.{Fits, OptionFits}
+use Rattle.vch_legal.specs.Tie.{Forms, FrameForms, Stands}
+use Rattle.vch_legal.proofs.EventSpots.{cases_bool}
+use Rattle.vch_legal.proofs.OwnSteps.{Before}
+use Rattle.vch_legal.proofs.LeaveSteps.{forming_of}
+use Rattle.vch_legal.proofs.Nexts.{is_call_kind, forms_at}
+
+-- a call is under way while a voucher is formed, and it is a create, a send or a recv
+abbrev CallThere : Scenario → ℕ → Machine → Type 0
+CallThere sc t m = (call : Call) × (nth_call sc t (tasked m t).begun ≡ Some call)
+
+call_there : (sc : Scenario) (t : ℕ) (m : Machine) (f : Frame) (v : Handles) → Before sc t m → (tasked m t).frame
+    ≡ Some f → f.forming ≡ Some v → CallThere sc t m
+call_there sc t m f v s e forming =
+    by_call (nth_call sc t (tasked m t).begun) refl
+    (subst (λ (w : Option Handles). FrameForms sc m.live (member_of m.live (tasked m t)) t f.at_byte f.keys f.receipt
+    w (nth_call sc t (tasked m t).begun)) forming (forming_of sc t m f s e))
+  where
+    by_call : (o : Option Call) → nth_call sc t (tasked m t).begun ≡ o
+        → FrameForms sc m.live (member_of m.live (tasked m t)) t f.at_byte f.keys f.receipt (Some v) o
+        → CallThere sc t m
+    by_call None g h = absurd h
+    by_call (Some call) g h = (call, g)
+
+formed_some : (g : Handles → Call → Option Machine) (v : Handles) (call : Call) (w : Option Handles) (c : Option Call)
+    → w ≡ Some v → c ≡ Some call → is_some (g v call) ≡ true → is_some (on_formed g w c) ≡ true
+formed_some g v call w c e h i = subst (λ (x : Option Handles). is_some (on_formed g x c) ≡ true) (sym e)
+    (subst (λ (x : Option Call). is_some (on_formed g (Some v) x) ≡ true) (sym h) i)
+
+if_some : (b : Bool) (x y : Option Machine) → is_some x ≡ true → is_some y ≡ true → is_some (if b then x else y) ≡ true
+if_some true x y h k = h
+if_some false x y h k = k
+
+some_kind : (a b : Kind) → Some a ≡ Some b → a ≡ b
+some_kind a b e = cc
+
+-- a Make asks for something
+record_asks : (live : List Living) (names : List Named) (t : ℕ) (ks : List Key) (v : Handles) (first : First)
+    → first_next names first ≡ kinds.Make → is_some (asked_first live names t ks v first) ≡ true
+record_asks live names t ks v (One r rest) e =
+    cases_bool (r.key == 4294967295) (is_some (asked_first live names t ks v (One r rest)) ≡ true)
+    (λ all. rw all refl)
+    (λ one. rw one (of_key (key_of r.key) (managed ((r.previous == 0) || is_some (known_name names r.previous))
+    (nat_lt 5 r.command) (is_some (key_of r.key)) (r.command == 10) (r.key == 4294967295) (length r.content == 0) one
+    (asking _ e))))
+  where
+    asking : (b : Bool) → (if b then kinds.Make else kinds.Work) ≡ kinds.Make → b ≡ true
+    asking true e = refl
+    asking false e = cc
+
+    managed : (k a b c d f : Bool) → d ≡ false → (k && ((a && b) || (c && (d && f)))) ≡ true → b ≡ true
+    managed k a b c d f h e = grind arith
+
+    of_key : (k : Option Key) → is_some k ≡ true → is_some (asked_record live names t v r k) ≡ true
+    of_key None h = cc
+    of_key (Some k) h = refl
+record_asks live names t ks v End e = cc
+record_asks live names t ks v (HeaderCut left) e = cc
+record_asks live names t ks v (ContentCut wanted left) e = cc
+
+keys_ask : (live : List Living) (g : Value → Value) (ks : List Key) (v : Handles)
+    → (if is_empty ks then Some kinds.Place else Some kinds.Make) ≡ Some kinds.Make
+    → is_some (asked_transfer live g ks v) ≡ true
+keys_ask live g [] v e = cc
+keys_ask live g (k ∷ ks) v e = refl
+
+asked_some : (sc : Scenario) (t : ℕ) (m : Machine) (f : Frame) (v : Handles) (call : Call) (x : Member) (place : ℕ)
+    (ks : List Key) (w : Voucher) → Forms sc x t call place ks w
+    → call_next (tasked m t).names f.at_byte f.keys (Some call) ≡ Some kinds.Make → is_some (asked_by sc m t f v call)
+    ≡ true
+asked_some sc t m f v (calls.Create bytes) x place ks w h e = record_asks m.live (tasked m t).names t f.keys v
+    (first_of (drop f.at_byte bytes)) (some_kind _ kinds.Make e)
+asked_some sc t m f v (calls.Send to moving name id) x place ks w h e = keys_ask m.live _ f.keys v e
+asked_some sc t m f v calls.Recv x place ks w h e = keys_ask m.live _ f.keys v e
+asked_some sc t m f v (calls.GiveUp name) x place ks w h e = absurd h
+asked_some sc t m f v (calls.Extract name key) x place ks w h e = absurd h
+asked_some sc t m f v (calls.Recipes name) x place ks w h e = absurd h
+asked_some sc t m f v (calls.Extern name adding n) x place ks w h e = absurd h
+asked_some sc t m f v (calls.Charge name n) x place ks w h e = absurd h
+asked_some sc t m f v calls.Ledger x place ks w h e = absurd h
+asked_some sc t m f v calls.Assertions x place ks w h e = absurd h
+asked_some sc t m f v calls.Live x place ks w h e = absurd h
+
+made_some : (m : Machine) (t : ℕ) (f : Frame) (v : Handles) (call : Call) (a : Option Asked) → is_some a ≡ true
+    → is_some (make_asked m t f v call a) ≡ true
+made_some m t f v call None e = cc
+made_some m t f v call (Some a) e = refl
+
+placed_some : (sc : Scenario) (want : Bool) (t : ℕ) (m : Machine) (f : Frame) (v : Handles) (call : Call) (x : Member)
+    (place : ℕ) (ks : List Key) (w : Voucher) → Forms sc x t call place ks w → is_some (do_place want m t f v call)
+    ≡ true
+placed_some sc want t m f v (calls.Create bytes) x place ks w h = if_some want _ _ refl refl
+placed_some sc want t m f v (calls.Send to moving name id) x place ks w h = if_some (is_full m to) _ _ refl
+    (if_some want _ _ refl refl)
+placed_some sc want t m f v calls.Recv x place ks w h = if_some want _ _ refl refl
+placed_some sc want t m f v (calls.GiveUp name) x place ks w h = absurd h
+placed_some sc want t m f v (calls.Extract name key) x place ks w h = absurd h
+placed_some sc want t m f v (calls.Recipes name) x place ks w h = absurd h
+placed_some sc want t m f v (calls.Extern name adding n) x place ks w h = absurd h
+placed_some sc want t m f v (calls.Charge name n) x place ks w h = absurd h
+placed_some sc want t m f v calls.Ledger x place ks w h = absurd h
+placed_some sc want t m f v calls.Assertions x place ks w h = absurd h
+placed_some sc want t m f v calls.Live x place ks w h = absurd h
+
+-- no other event is the call's own
+keys_kind : (b : Bool) (kind : Kind) → (if b then Some kinds.Place else Some kinds.Make) ≡ Some kind
+    → is_call_kind kind ≡ true
+keys_kind true kind e = subst (λ (k : Kind). is_call_kind k ≡ true) (some_kind kinds.Place kind e) refl
+keys_kind false kind e = subst (λ (k : Kind). is_call_kind k ≡ true) (some_kind kinds.Make kind e) refl
+
+first_kind : (names : List Named) (first : First) → is_call_kind (first_next names first) ≡ true
+first_kind names (One r rest) = by_test (asks (known_name names) r)
+  where
+    by_test : (b : Bool) → is_call_kind (if b then kinds.Make else kinds.Work) ≡ true
+    by_test true = refl
+    by_test false = refl
+first_kind names End = refl
+first_kind names (HeaderCut left) = refl
+first_kind names (ContentCut wanted left) = refl
+
+own_kind : (names : List Named) (place : ℕ) (ks : List Key) (call : Call) (kind : Kind)
+    → call_next names place ks (Some call) ≡ Some kind → is_call_kind kind ≡ true
+own_kind names place ks (calls.Create bytes) kind e = subst (λ (k : Kind). is_call_kind k ≡ true) (some_kind _ kind e)
+    (first_kind names (first_of (drop place bytes)))
+own_kind names place ks (calls.GiveUp name) kind e = keys_kind (is_empty ks) kind e
+own_kind names place ks (calls.Extract name key) kind e = keys_kind (is_empty ks) kind e
+own_kind names place ks (calls.Recipes name) kind e = keys_kind (is_empty ks) kind e
+own_kind names place ks (calls.Send to moving name id) kind e = keys_kind (is_empty ks) kind e
+own_kind names place ks calls.Recv kind e = keys_kind (is_empty ks) kind e
+own_kind names place ks (calls.Extern name adding n) kind e = keys_kind (is_empty ks) kind e
+own_kind names place ks (calls.Charge name n) kind e = keys_kind (is_empty ks) kind e
+own_kind names place ks calls.Ledger kind e = keys_kind (is_empty ks) kind e
+own_kind names place ks calls.Assertions kind e = keys_kind (is_empty ks) kind e
+own_kind names place ks calls.Live kind e = keys_kind (is_empty ks) kind e
+
+not_other : (names : List Named) (place : ℕ) (ks : List Key) (call : Call) (kind : Kind)
+    → call_next names place ks (Some call) ≡ Some kind → is_call_kind kind ≡ false → ⊥
+not_other names place ks call kind e h = let k : is_call_kind kind
+    ≡ true = own_kind names place ks call kind e in let n : true ≡ false = sym k ∙ h in cc
+
+-- the call's own events
+called_some : (sc : Scenario) (want : Bool) (t : ℕ) (m : Machine) (f : Frame) (v : Handles) (call : Call)
+    (kind : Kind) → Before sc t m → (tasked m t).frame ≡ Some f → f.forming ≡ Some v
+    → nth_call sc t (tasked m t).begun ≡ Some call
+    → call_next (tasked m t).names f.at_byte f.keys (Some call) ≡ Some kind → is_some (frame_event sc want m t f kind)
+    ≡ true
+called_some sc want t m f v call kinds.Work s e forming there next = formed_some _ v call f.forming _ forming there
+    refl
+called_some sc want t m f v call kinds.Make s e forming there next =
+    formed_some _ v call f.forming _ forming there
+    (if_some want _ _ refl (made_some m t f v call (asked_by sc m t f v call)
+    (asked_some sc t m f v call (member_of m.live (tasked m t)) _ _ _
+    (forms_at sc t m f v f.receipt call s e forming refl there) next)))
+called_some sc want t m f v call kinds.Place s e forming there next =
+    formed_some _ v call f.forming _ forming there
+    (placed_some sc want t m f v call (member_of m.live (tasked m t)) _ _ _
+    (forms_at sc t m f v f.receipt call s e forming refl there))
+called_some sc want t m f v call kinds.Begin s e forming there next = absurd
+    (not_other (tasked m t).names f.at_byte f.keys call kinds.Begin next refl)
+called_some sc want t m f v call kinds.Refer s e forming there next = absurd
+    (not_other (tasked m t).names f.at_byte f.keys call kinds.Refer next refl)
+called_some sc want t m f v call kinds.LetGo s e forming there next = absurd
+    (not_other (tasked m t).names f.at_byte f.keys call kinds.LetGo next refl)
+called_some sc want t m f v call kinds.Ask s e forming there next = absurd
+    (not_other (tasked m t).names f.at_byte f.keys call kinds.Ask next refl)
+called_some sc want t m f v call kinds.Recheck s e forming there next = absurd
+    (not_other (tasked m t).names f.at_byte f.keys call kinds.Recheck next refl)
+called_some sc want t m f v call kinds.Phase s e forming there next = absurd
+    (not_other (tasked m t).names f.at_byte f.keys call kinds.Phase next refl)
+
+place_some : (g : Place → Machine) (o : Option Place) → is_some o ≡ true → is_some (on_place g o) ≡ true
+place_some g None e = cc
+place_some g (Some p) e = refl
+
+-- an event of a frame
+frame_some : (sc : Scenario) (want : Bool) (t : ℕ) (m : Machine) (f : Frame) (kind : Kind) → Fits sc m → Before sc t m
+    → (tasked m t).frame ≡ Some f → frame_next (tasked m t).names f (nth_call sc t (tasked m t).begun) f.receipt
+    ≡ Some kind
+    → is_some (frame_event sc want m t f kind) ≡ true
+frame_some sc want t m f kind fits s e next = by_receipt f.receipt refl next
+  where
+    to_kind : (k : Kind) → Some k ≡ Some kind → is_some (frame_event sc want m t f k) ≡ true
+        → is_some (frame_event sc want m t f kind) ≡ true
+    to_kind k g h = subst (λ (x : Kind). is_some (frame_event sc want m t f x) ≡ true) (some_kind k kind g) h
+
+    by_formed : (v : Option Handles) → f.forming ≡ v → formed_next (tasked m t).names f
+        (nth_call sc t (tasked m t).begun) v ≡ Some kind → is_some (frame_event sc want m t f kind) ≡ true
+    by_formed None g h = cc
+    by_formed (Some v) g h = of_call (call_there sc t m f v s e g)
+      where
+        of_call : CallThere sc t m → is_some (frame_event sc want m t f kind) ≡ true
+        of_call (call, there) = called_some sc want t m f v call kind s e g there
+            (ap (call_next (tasked m t).names f.at_byte f.keys) (sym there) ∙ h)
+
+    by_lets : (lets : List Place) → f.lets ≡ lets → lets_next (tasked m t).names f (nth_call sc t (tasked m t).begun)
+        lets ≡ Some kind → is_some (frame_event sc want m t f kind) ≡ true
+    by_lets (p ∷ rest) g h = to_kind kinds.LetGo h
+        (subst (λ (xs : List Place). is_some (on_lets (λ p rest. do_let_go m t f p rest) xs) ≡ true) (sym g) refl)
+    by_lets [] g h = by_formed f.forming refl h
+
+    of_answer : (c : Claim) (b : Bool) → f.claim ≡ Some c → Some (if b then kinds.Recheck else kinds.Ask) ≡ Some kind
+        → is_some (frame_event sc want m t f kind) ≡ true
+    of_answer c true g h = to_kind kinds.Recheck h
+        (subst (λ (o : Option Claim). is_some (on_the_claim (λ c. do_recheck m t f c) o) ≡ true) (sym g) refl)
+    of_answer c false g h = to_kind kinds.Ask h (subst
+        (λ (o : Option Claim). is_some (on_the_claim (λ c. do_ask m t f c) o) ≡ true) (sym g) refl)
+
+    by_claim : (c : Option Claim) → f.claim ≡ c → unclaimed_next (tasked m t).names f
+        (nth_call sc t (tasked m t).begun) c ≡ Some kind → is_some (frame_event sc want m t f kind) ≡ true
+    by_claim (Some c) g h = of_answer c (is_some c.answer) g h
+    by_claim None g h = by_lets f.lets refl h
+
+    referred : (v : Option Handles) → f.forming ≡ v → is_some v ≡ true → is_some f.receipt ≡ true
+        → is_some (frame_event sc want m t f kinds.Refer) ≡ true
+    referred None g h r = cc
+    referred (Some v) g h r = of_call (call_there sc t m f v s e g)
+      where
+        of_call : CallThere sc t m → is_some (frame_event sc want m t f kinds.Refer) ≡ true
+        of_call (call, there) = formed_some _ v call f.forming _ g there (place_some _ f.receipt r)
+
+    by_receipt : (r : Option Place) → f.receipt ≡ r → frame_next (tasked m t).names f
+        (nth_call sc t (tasked m t).begun) r ≡ Some kind → is_some (frame_event sc want m t f kind) ≡ true
+    by_receipt (Some q) g h = to_kind kinds.Refer h
+        (referred f.forming refl ((subst OptionFits e (fits.frames t)).forming (ap is_some g)) (ap is_some g))
+    by_receipt None g h = by_claim f.claim refl h
+
+-- a call that is left has a line
+line_there : (sc : Scenario) (t n p : ℕ) → n + 1 ≤ lines_until sc p t → is_some (nth_call sc t (n + 1)) ≡ true
+line_there sc t n p h = by_place (n + 1 - 1) (within (lines_of sc t) n _ h (fewer (λ l. nat_le l.0 p) (lines_of sc t)))
+  where
+    fewer : (test : ℕ × Line → Bool) (xs : List (ℕ × Line)) → length (filter test xs) ≤ length xs
+    fewer test [] = omega arith
+    fewer test (x ∷ xs) =
+        let i : length (filter test xs) ≤ length xs = fewer test xs in
+        cases_bool (test x) (length (filter test (x ∷ xs)) ≤ length (x ∷ xs)) (λ e. rw e (omega arith))
+        (λ e. rw e (omega arith))
+
+    within : (xs : List (ℕ × Line)) (n k : ℕ) → n + 1 ≤ k → k ≤ length xs → n + 1 - 1 < length xs
+    within xs n k a b = omega arith
+
+    by_place : (i : ℕ) → i < length (lines_of sc t) → is_some (call_in (slice_get (lines_of sc t) i)) ≡ true
+    by_place i l = in_list (lines_of sc t) i l
+      where
+        in_list : (xs : List (ℕ × Line)) (i : ℕ) → i < length xs → is_some (call_in (slice_get xs i)) ≡ true
+        in_list [] i l = absurd (omega arith)
+        in_list (x ∷ xs) zero l = refl
+        in_list (x ∷ xs) (suc i) l = in_list xs i (omega arith)
+
+begun_some : (sc : Scenario) (want : Bool) (m : Machine) (t : ℕ) (call : Option Call) → is_some call ≡ true
+    → is_some (begin_line sc want m t call) ≡ true
+begun_some sc want m t None e = cc
+begun_some sc want m t (Some call) e = refl
+
+-- an event that is next can happen
+pub event_some : (sc : Scenario) (want : Bool) (t : ℕ) (m : Machine) → Stands sc m → is_task sc t ≡ true
+    → is_some (next_kind sc m t) ≡ true → is_some (event sc want m t) ≡ true
+unfolding event
+event_some sc want t m s task e = rw task (by_frame (tasked m t).frame (next_kind sc m t) refl refl e)
+  where
+    at_most : (a b : ℕ) → nat_lt a b ≡ true → a + 1 ≤ b
+    at_most a b h = grind arith
+
+    begins : (b : Bool) (kind : Kind) → (if b then Some kinds.Begin else None) ≡ Some kind → b ≡ true
+    begins true kind e = refl
+    begins false kind e = cc
+
+    by_frame : (f : Option Frame) (kind : Option Kind) → (tasked m t).frame ≡ f
+        → task_next sc (phases_in m.past) t (tasked m t) f ≡ kind → is_some kind ≡ true
+        → is_some (event_of sc want m t f kind) ≡ true
+    by_frame f None g h i = cc
+    by_frame None (Some kind) g h i = begun_some sc want m t _
+        (line_there sc t (tasked m t).begun (phases_in m.past + 1) (at_most _ _ (begins _ kind h)))
+    by_frame (Some f) (Some kind) g h i = frame_some sc want t m f kind s.fits (s.tasks t task) g h

@@ -1,0 +1,223 @@
+-- The moves of the schedules can happen, one after the other.
+use Rattle.std.proofs.Common.{◌≡◌, ℕ, zero, suc, ◌+◌, ◌%◌, ◌<◌, ◌≤◌, Bool, List, [], ◌∷◌, refl, true, false, not, arith, sym, ap, subst, length, get_or, Some, None, Option}
+use Rattle.std.proofs.Math.Nat.{mod-lt}
+use Rattle.std.specs.Prelude.{if◌then◌else◌, ◌==◌, nat_lt, is_some, slice_index_or}
+use Rattle.std.specs.List.{count_by, AllByRecursion}
+use Rattle.vch_base.specs.declared.kind.Kind.TheVariants as kinds
+use Rattle.vch_model.specs.declared.call.Line.{Line}
+use Rattle.vch_model.specs.declared.lists.Scenario.{Scenario}
+use Rattle.vch_model.specs.Lines.{is_task, calls_in, phases_in, lines_until}
+use Rattle.vch_model.specs.Scenarios.{IsIn, IsLimited}
+use Rattle.vch_machine.specs.State.{Frame, Machine, tasked, start, is_empty}
+use Rattle.vch_machine.specs.Events.{phase_event, numbers, ready}
+use Rattle.vch_machine.specs.Next.{next_kind, task_next}
+use Rattle.vch_machine.specs.Schedules.{Move, happens, run, run_from_start, lowest_open, first_waiting, turn_task, move_of, has_ended, in_turn, drawn, picked, seed_after, by_seed}
+use Rattle.vch_legal.specs.Facts.{bit}
+use Rattle.vch_legal.specs.Tie.{is_answering, Stands}
+use Rattle.vch_legal.proofs.EventSpots.{cases_bool}
+use Rattle.vch_legal.proofs.AtRest.{task_of}
+use Rattle.vch_legal.proofs.PhaseCounts.{of_task, lines_with_phase}
+use Rattle.vch_legal.proofs.Possible.{event_some}
+use Rattle.vch_legal.proofs.Runs.{start_stands, happens_stands}
+use Rattle.vch_legal.proofs.Turns.{all_numbers, number_of_all, all_tasks, Opened, lowest_some, lowest_none, opened_next, waiting_some, waiting_in, waiting_none}
+
+-- the lines of a phase are calls of tasks
+phase_limited : (sc : Scenario) → (phases : List (List Line)) (p : ℕ)
+    → AllByRecursion (λ lines. AllByRecursion (λ l. IsIn (length sc.flags) l) lines) phases
+    → AllByRecursion (λ l. IsIn (length sc.flags) l) (get_or phases p [])
+phase_limited sc [] p h = tt
+phase_limited sc (lines ∷ phases) zero h = h.0
+phase_limited sc (lines ∷ phases) (suc p) h = phase_limited sc phases p h.1
+
+abbrev now : Scenario → Machine → List Line
+now sc m = slice_index_or sc.phases (phases_in m.past) []
+
+next_begin : (b : Bool) → b ≡ true → is_some (if b then Some kinds.Begin else None) ≡ true
+next_begin true e = refl
+next_begin false e = cc
+
+below : (a b : ℕ) → a < b → nat_lt a b ≡ true
+below a b h = grind arith
+
+not_below : (a b : ℕ) → b ≤ a → nat_lt a b ≡ false
+not_below a b h = grind arith
+
+-- a task whose line waits has a next event: a Begin, or one of its frame
+waiting_next : (sc : Scenario) (m : Machine) (t : ℕ) → Stands sc m → is_task sc t ≡ true
+    → first_waiting sc m [] (now sc m) ≡ Some t → is_some (next_kind sc m t) ≡ true
+waiting_next sc m t s task e = by_frame (tasked m t).frame refl
+  where
+    more : (tasked m t).begun < lines_until sc (phases_in m.past + 1) t
+    more =
+        let a : (tasked m t).begun < count_by (λ u. u == t) [] + of_task t (now sc m) + lines_until sc
+        (phases_in m.past) t = waiting_some sc m [] (now sc m) t e in
+        let b : lines_until sc (phases_in m.past + 1) t ≡ lines_until sc (phases_in m.past) t + of_task t (now sc m) =
+        lines_with_phase sc t (phases_in m.past) in
+        let c : count_by (λ u. u == t) [] ≡ 0 = refl in omega arith
+
+    by_frame : (f : Option Frame) → (tasked m t).frame ≡ f → is_some
+        (task_next sc (phases_in m.past) t (tasked m t) (tasked m t).frame) ≡ true
+    by_frame None g = subst (λ (o : Option Frame). is_some (task_next sc (phases_in m.past) t (tasked m t) o) ≡ true)
+        (sym g) (next_begin _ (below _ _ more))
+    by_frame (Some f) g = opened_next sc m t (s.tasks t task) (ap is_some g)
+
+-- where no frame is and no line waits, no task has a next event
+resting : (sc : Scenario) (m : Machine) (t : ℕ) → Stands sc m → is_task sc t ≡ true → is_some (tasked m t).frame
+    ≡ false → first_waiting sc m [] (now sc m) ≡ None → is_some (next_kind sc m t) ≡ false
+resting sc m t s task none e = by_frame (tasked m t).frame none
+  where
+    fewer : lines_until sc (phases_in m.past + 1) t ≤ (tasked m t).begun
+    fewer =
+        let b : lines_until sc (phases_in m.past + 1) t ≡ lines_until sc (phases_in m.past) t + of_task t (now sc m) =
+        lines_with_phase sc t (phases_in m.past) in
+        let c : (tasked m t).begun ≡ calls_in m.past t + bit (is_answering (tasked m t).frame) =
+        (s.tasks t task).counted in
+        let d : lines_until sc (phases_in m.past) t ≤ calls_in m.past t = (s.tasks t task).answered in
+        cases_bool (nat_lt 0 (of_task t (now sc m))) (lines_until sc (phases_in m.past + 1) t ≤ (tasked m t).begun)
+        (λ some. let i : count_by (λ u. u == t) [] + of_task t (now sc m) + lines_until sc (phases_in m.past) t ≤
+        (tasked m t).begun = waiting_none sc m [] (now sc m) t e (above _ _ some) in
+        let k : count_by (λ u. u == t) [] ≡ 0 = refl in omega arith)
+        (λ zero. let z : of_task t (now sc m) ≤ 0 = at_most _ _ zero in omega arith)
+      where
+        above : (a b : ℕ) → nat_lt a b ≡ true → a < b
+        above a b h = grind arith
+
+        at_most : (a b : ℕ) → nat_lt a b ≡ false → b ≤ a
+        at_most a b h = grind arith
+
+    by_frame : (f : Option Frame) → is_some f ≡ false → is_some (task_next sc (phases_in m.past) t (tasked m t) f)
+        ≡ false
+    by_frame None g = none_begins _ (not_below _ _ fewer)
+      where
+        none_begins : (b : Bool) → b ≡ false → is_some (if b then Some kinds.Begin else None) ≡ false
+        none_begins true e = cc
+        none_begins false e = refl
+    by_frame (Some f) g = cc
+
+none_are_ready : (sc : Scenario) (m : Machine) (ts : List ℕ)
+    → AllByRecursion (λ t. is_some (next_kind sc m t) ≡ false) ts → is_empty (ready sc m ts) ≡ true
+none_are_ready sc m [] h = refl
+none_are_ready sc m (t ∷ ts) h = rw h.0 (none_are_ready sc m ts h.1)
+
+-- a phase can end
+phase_some : (sc : Scenario) (m : Machine) → is_empty (ready sc m (numbers (length sc.flags))) ≡ true → has_ended sc m
+    ≡ false → is_some (phase_event sc m) ≡ true
+unfolding phase_event
+phase_some sc m e over = rw (e, more (nat_lt (phases_in m.past) (length sc.phases)) over) refl
+  where
+    more : (b : Bool) → not b ≡ false → b ≡ true
+    more true h = refl
+    more false h = cc
+
+-- in turn
+
+-- a move in turn can happen
+turn_some : (sc : Scenario) (wants : ℕ → Bool) (n : ℕ) (m : Machine) → IsLimited sc → Stands sc m → has_ended sc m
+    ≡ false
+    → is_some (happens sc m (move_of wants n (turn_task sc m (lowest_open m (numbers (length sc.flags)))))) ≡ true
+turn_some sc wants n m limited s over = by_open (lowest_open m (numbers (length sc.flags))) refl
+  where
+    by_open : (o : Option ℕ) → lowest_open m (numbers (length sc.flags)) ≡ o
+        → is_some (happens sc m (move_of wants n (turn_task sc m o))) ≡ true
+    by_open (Some t) e =
+        let o : Opened sc m t = lowest_some sc m (numbers (length sc.flags)) t (all_tasks sc) e in
+        event_some sc (wants n) t m s o.task (opened_next sc m t (s.tasks t o.task) o.frame)
+    by_open None e = by_line (first_waiting sc m [] (now sc m)) refl
+      where
+        by_line : (o : Option ℕ) → first_waiting sc m [] (now sc m) ≡ o → is_some (happens sc m (move_of wants n o))
+            ≡ true
+        by_line (Some t) g =
+            let task : is_task sc t ≡ true = waiting_in sc m [] (now sc m) t
+            (phase_limited sc sc.phases (phases_in m.past) limited.lines) g in
+            event_some sc (wants n) t m s task (waiting_next sc m t s task g)
+        by_line None g =
+            phase_some sc m (none_are_ready sc m (numbers (length sc.flags))
+            (all_numbers (λ t. is_some (next_kind sc m t) ≡ false) (length sc.flags)
+            (λ t a b. resting sc m t s (task_of sc t a b)
+            (number_of_all (λ u. is_some (tasked m u).frame ≡ false) (length sc.flags)
+            (lowest_none m (numbers (length sc.flags)) e) t a b) g))) over
+
+-- some moves that can happen lead to a state
+abbrev Runs : Scenario → List Move → Option Machine → Type 0
+Runs sc moves o = is_some (run sc moves o) ≡ true
+
+pub turn_runs : (sc : Scenario) (wants : ℕ → Bool) (n : ℕ) (m : Machine) → IsLimited sc → Stands sc m
+    → Runs sc (in_turn n wants sc (Some m)) (Some m)
+unfolding in_turn
+turn_runs sc wants zero m limited s = refl
+turn_runs sc wants (suc n) m limited s =
+    cases_bool (has_ended sc m) (Runs sc (in_turn (suc n) wants sc (Some m)) (Some m))
+    (λ over. rw over refl)
+    (λ over. rw over (by_move (happens sc m move) refl (turn_some sc wants n m limited s over)
+    (λ k. turn_runs sc wants n k limited)))
+  where
+    move : Move
+    move = move_of wants n (turn_task sc m (lowest_open m (numbers (length sc.flags))))
+
+    by_move : (o : Option Machine) → happens sc m move ≡ o → is_some o ≡ true
+        → ((k : Machine) → Stands sc k → Runs sc (in_turn n wants sc (Some k)) (Some k))
+        → Runs sc (in_turn n wants sc o) o
+    by_move None e h rec = cc
+    by_move (Some k) e h rec = rec k (happens_stands sc m k move s e)
+
+-- by seed
+
+-- a task that is ready
+record IsReady (sc : Scenario) (m : Machine) (t : ℕ) : Type 0 where
+  task : is_task sc t ≡ true
+  next : is_some (next_kind sc m t) ≡ true
+
+all_ready : (sc : Scenario) (m : Machine) (ts : List ℕ) → AllByRecursion (λ t. is_task sc t ≡ true) ts
+    → AllByRecursion (IsReady sc m) (ready sc m ts)
+all_ready sc m [] h = tt
+all_ready sc m (t ∷ ts) h =
+    cases_bool (is_some (next_kind sc m t)) (AllByRecursion (IsReady sc m) (ready sc m (t ∷ ts)))
+    (λ e. rw e (record { task = h.0; next = e }, all_ready sc m ts h.1))
+    (λ e. rw e (all_ready sc m ts h.1))
+
+all_at : (P : ℕ → Type 0) (xs : List ℕ) (i : ℕ) → AllByRecursion P xs → i < length xs → P (get_or xs i 0)
+all_at P [] i h l = absurd (omega arith)
+all_at P (x ∷ xs) zero h l = h.0
+all_at P (x ∷ xs) (suc i) h l = all_at P xs i h.1 (omega arith)
+
+seed_some : (sc : Scenario) (wants : ℕ → Bool) (n s : ℕ) (m : Machine) → Stands sc m → has_ended sc m ≡ false
+    → (ts : List ℕ) → ready sc m (numbers (length sc.flags)) ≡ ts → AllByRecursion (IsReady sc m) ts
+    → is_some (happens sc m (move_of wants n (picked ts s))) ≡ true
+seed_some sc wants n s m stands over [] e h = phase_some sc m (ap is_empty e) over
+seed_some sc wants n s m stands over (t ∷ ts) e h =
+    let r : IsReady sc m (get_or (t ∷ ts) (drawn s % length (t ∷ ts)) 0) = all_at (IsReady sc m) (t ∷ ts)
+    (drawn s % length (t ∷ ts)) h (mod-lt (drawn s) (omega arith)) in
+    event_some sc (wants n) (get_or (t ∷ ts) (drawn s % length (t ∷ ts)) 0) m stands r.task r.next
+
+pub seed_runs : (sc : Scenario) (wants : ℕ → Bool) (n seed : ℕ) (m : Machine) → Stands sc m
+    → Runs sc (by_seed n seed wants sc (Some m)) (Some m)
+unfolding by_seed
+seed_runs sc wants zero seed m s = refl
+seed_runs sc wants (suc n) seed m s =
+    cases_bool (has_ended sc m) (Runs sc (by_seed (suc n) seed wants sc (Some m)) (Some m))
+    (λ over. rw over refl)
+    (λ over. rw over (by_move (happens sc m move) refl
+    (seed_some sc wants n next m s over (ready sc m (numbers (length sc.flags))) refl
+    (all_ready sc m (numbers (length sc.flags)) (all_tasks sc))) (λ k. seed_runs sc wants n next k)))
+  where
+    next : ℕ
+    next = seed_after (ready sc m (numbers (length sc.flags))) seed
+
+    move : Move
+    move = move_of wants n (picked (ready sc m (numbers (length sc.flags)))
+        (seed_after (ready sc m (numbers (length sc.flags))) seed))
+
+    by_move : (o : Option Machine) → happens sc m move ≡ o → is_some o ≡ true
+        → ((k : Machine) → Stands sc k → Runs sc (by_seed n next wants sc (Some k)) (Some k))
+        → Runs sc (by_seed n next wants sc o) o
+    by_move None e h rec = cc
+    by_move (Some k) e h rec = rec k (happens_stands sc m k move s e)
+
+-- from the start
+pub turn_from_start : (sc : Scenario) (wants : ℕ → Bool) (n : ℕ) → IsLimited sc
+    → is_some (run_from_start sc (in_turn n wants sc (Some (start sc)))) ≡ true
+turn_from_start sc wants n limited = turn_runs sc wants n (start sc) limited (start_stands sc)
+
+pub seed_from_start : (sc : Scenario) (wants : ℕ → Bool) (n seed : ℕ)
+    → is_some (run_from_start sc (by_seed n seed wants sc (Some (start sc)))) ≡ true
+seed_from_start sc wants n seed = seed_runs sc wants n seed (start sc) (start_stands sc)

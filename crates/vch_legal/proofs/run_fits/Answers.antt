@@ -1,0 +1,5 @@
+use Rattle.vch_legal.proofs.Keeps.{reached_fits}
+use Rattle.vch_legal.proofs.run_fits.Goals as goal
+
+pub returns : goal.returns
+returns c = reached_fits

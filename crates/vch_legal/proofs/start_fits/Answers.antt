@@ -1,0 +1,5 @@
+use Rattle.vch_legal.proofs.Keeps.{start_keeps}
+use Rattle.vch_legal.proofs.start_fits.Goals as goal
+
+pub returns : goal.returns
+returns c = start_keeps

@@ -1,0 +1,3 @@
+pub mod Facts
+pub mod Tie
+pub mod Conserved

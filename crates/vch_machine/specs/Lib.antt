@@ -1,0 +1,12 @@
+pub mod State
+pub mod Naming
+pub mod Frames
+pub mod Next
+pub mod Beginning
+pub mod Working
+pub mod Making
+pub mod Placing
+pub mod Leaving
+pub mod Events
+pub mod Schedules
+pub mod Worked

@@ -1,0 +1,33 @@
+-- How the statuses of the top call follow from what was read and written.
+use Rattle.std.proofs.Common.{◌≡◌, ◌≤◌, ℕ, List, ◌++◌, length, sym, ap, ◌∙◌, arith, subst, Option, Some, None, IfSome, inr, append-nil}
+use Rattle.std.specs.Io.KnownBytes.{Consumes, IsAtEnd}
+use Rattle.vch_replay.specs.declared.command.Command.{Command}
+use Rattle.vch_replay.specs.Input.{limit, GaveTooMuch, WritesPrefix}
+use Rattle.vch_replay.specs.Run.{IsIn, Refuses, WritesPart, IsGood}
+
+-- short input is not too long
+pub good_short : (words : Option Command) (left rest : Option (List ℕ)) → IsGood words left → GaveTooMuch left rest → ⊥
+good_short None left rest good much = good
+good_short (Some command) None rest good much = good
+good_short (Some command) (Some input) None good much = much
+good_short (Some command) (Some input) (Some rest) good much = let short : length input ≤ limit = good.1 in omega arith
+
+-- all that was left is what was read to the end
+pub all_read : (all input rest : List ℕ) → Consumes (Some all) (Some rest) input → IsAtEnd (Some rest) → all ≡ input
+all_read all input rest c e = c ∙ ap (λ l. input ++ l) e ∙ append-nil input
+
+-- a prefix of the line of a refusal
+pub part_refused : (command : Command) (left rest : Option (List ℕ)) (input line : List ℕ) (old new : Option (List ℕ)) → Consumes left rest input → IsAtEnd rest
+    → Refuses command input line → length input ≤ limit → WritesPrefix old new line → IfSome left (λ all. WritesPart (Some command) all old new)
+part_refused command None rest input line old new c e refused short p = tt
+part_refused command (Some all) None input line old new c e refused short p = absurd c
+part_refused command (Some all) (Some rest) input line old new c e refused short p =
+    subst (λ (x : List ℕ). WritesPart (Some command) x old new) (sym (all_read all input rest c e)) (line, p.0, inr refused, short, p.2)
+
+-- input in a command's grammar is not refused
+pub good_refused : (command : Command) (left rest : Option (List ℕ)) (input line : List ℕ) → Consumes left rest input → IsAtEnd rest → Refuses command input line
+    → ((x : List ℕ) → IsIn command x → Refuses command x line → ⊥) → IsGood (Some command) left → ⊥
+good_refused command None rest input line c e refused apart good = good
+good_refused command (Some all) None input line c e refused apart good = c
+good_refused command (Some all) (Some rest) input line c e refused apart good =
+    apart input (subst (λ (x : List ℕ). IsIn command x) (all_read all input rest c e) good.0) refused

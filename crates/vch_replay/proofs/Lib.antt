@@ -1,0 +1,6 @@
+pub mod Written
+pub mod Joined
+pub mod Ends
+pub mod Grammars
+pub mod PlainReports
+pub mod PlainText

@@ -1,0 +1,4 @@
+pub mod Input
+pub mod Commands
+pub mod Lines
+pub mod Run

@@ -1,0 +1,38 @@
+-- The lines that the program writes of its own: one a record, and one where input is refused.
+use Rattle.std.specs.Prelude.{ℕ, List, [], ◌++◌, codes}
+use Rattle.std.specs.List.{flat_map}
+use Rattle.vch_recipe.specs.declared.recipe.Recipe.{Recipe}
+use Rattle.vch_recipe.specs.declared.fault.RecipeFault.{RecipeFault}
+use Rattle.vch_recipe.specs.declared.fault.RecipeFault.TheVariants as recipe_faults
+use Rattle.vch_scenario.specs.declared.fault.Why.{Why}
+use Rattle.vch_scenario.specs.declared.fault.Why.TheVariants as whys
+use Rattle.vch_model.specs.Text.{spaced, newline, hex_of}
+
+abbrev pub recipe_line : Recipe → List ℕ
+recipe_line r = codes "recipe" ++ spaced r.key ++ spaced r.command ++ spaced r.previous ++ codes " " ++ hex_of r.content ++ newline
+
+-- one line a record, in their order, and the line `end`
+abbrev pub recipe_text : List Recipe → List ℕ
+recipe_text records = flat_map recipe_line records ++ codes "end" ++ newline
+
+abbrev pub why_text : Why → List ℕ
+why_text whys.Form = codes "form"
+why_text whys.Range = codes "range"
+why_text whys.Limit = codes "limit"
+why_text whys.Ending = codes "ending"
+
+-- the first fault of a scenario's text
+abbrev pub scenario_fault : ℕ → Why → List ℕ
+scenario_fault line why = codes "fault line" ++ spaced line ++ codes " why " ++ why_text why ++ newline
+
+-- a scenario that can't be run yet
+abbrev pub not_built : List ℕ
+not_built = codes "fault not built" ++ newline
+
+-- the first fault of a recipe array; want of memory has no line
+abbrev pub recipe_fault : RecipeFault → List ℕ
+recipe_fault (recipe_faults.TooLarge size) = codes "fault size" ++ spaced size ++ newline
+recipe_fault (recipe_faults.HeaderCut at left) = codes "fault header at" ++ spaced at ++ codes " left" ++ spaced left ++ newline
+recipe_fault (recipe_faults.ContentCut at wanted left) =
+    codes "fault content at" ++ spaced at ++ codes " wanted" ++ spaced wanted ++ codes " left" ++ spaced left ++ newline
+recipe_fault recipe_faults.NoMemory = []

@@ -1,0 +1,113 @@
+-- What the top call promises.
+use Rattle.std.specs.Prelude.{◌≡◌, ◌≤◌, ◌<◌, ◌⊎◌, ℕ, List, length, take, Option, Some, None}
+use Rattle.vch_base.specs.Stream.{Appends}
+use Rattle.vch_recipe.specs.Recipes.{Recipes}
+use Rattle.vch_recipe.specs.Cuts.{IsHeaderCut, IsContentCut}
+use Rattle.vch_recipe.specs.declared.fault.RecipeFault.TheVariants as recipe_faults
+use Rattle.vch_recipe.specs.declared.fault.RecipeFault.{RecipeFault}
+use Rattle.vch_recipe.specs.declared.recipe.Recipe.{Recipe}
+use Rattle.vch_model.specs.declared.entry.Entry.{Entry}
+use Rattle.vch_model.specs.declared.lists.Scenario.{Scenario}
+use Rattle.vch_model.specs.Scenarios.{IsScenario}
+use Rattle.vch_model.specs.Canonical.{Canon}
+use Rattle.vch_model.specs.Built.{CanRun}
+use Rattle.vch_model.specs.Legal.{Whole}
+use Rattle.vch_model.specs.Plain.{history_of}
+use Rattle.vch_model.specs.Text.{Text}
+use Rattle.vch_scenario.specs.Faults as scenario_faults
+use Rattle.vch_scenario.specs.declared.fault.Why.{Why}
+use Rattle.vch_replay.specs.Input.{limit}
+use Rattle.vch_replay.specs.Lines.{recipe_text, scenario_fault, not_built, recipe_fault}
+use Rattle.vch_replay.specs.declared.command.Command.{Command}
+use Rattle.vch_replay.specs.declared.command.Command.TheVariants as commands
+use Rattle.vch_replay.specs.declared.outcome.Outcome.{Outcome}
+use Rattle.vch_replay.specs.declared.outcome.Outcome.TheVariants as outcomes
+
+-- the text is the canonical one of the scenario that the input gives
+abbrev pub IsCanonical : List ℕ → List ℕ → Type 0
+IsCanonical input text = (sc : Scenario) × IsScenario input sc × (text ≡ Canon sc)
+
+-- the text is the report of one legal and whole history of the scenario: of its run in turn
+pub record IsReportOf (sc : Scenario) (text : List ℕ) (history : List Entry) : Type 0 where
+  pub built : CanRun sc
+  pub whole : Whole history sc
+  pub in_turn : history ≡ history_of sc
+  pub text_is : text ≡ Text history sc
+
+abbrev pub IsRunReport : Scenario → List ℕ → Type 0
+IsRunReport sc text = (history : List Entry) × IsReportOf sc text history
+
+-- the text is such a report of the scenario that the input gives
+abbrev pub IsReport : List ℕ → List ℕ → Type 0
+IsReport input text = (sc : Scenario) × IsScenario input sc × IsRunReport sc text
+
+-- the input is an array of these records
+abbrev pub IsArray : List ℕ → List Recipe → Type 0
+IsArray input records = (length input ≤ 5120) × Recipes input records
+
+-- the text has a line for each record of the array that the input is
+abbrev pub IsListing : List ℕ → List ℕ → Type 0
+IsListing input text = (records : List Recipe) × IsArray input records × (text ≡ recipe_text records)
+
+-- what a command writes where the input is in its grammar
+abbrev pub Answers : Command → List ℕ → List ℕ → Type 0
+Answers commands.Check input text = IsCanonical input text
+Answers commands.Play input text = IsReport input text
+Answers commands.Recipe input text = IsListing input text
+
+-- the line tells the first fault of the scenario's text
+abbrev pub IsScenarioFault : List ℕ → List ℕ → Type 0
+IsScenarioFault input line = (at : ℕ) × (why : Why) × scenario_faults.IsFault input at why × (line ≡ scenario_fault at why)
+
+-- a scenario that can't be run yet
+abbrev pub IsNotBuilt : List ℕ → List ℕ → Type 0
+IsNotBuilt input line = (sc : Scenario) × IsScenario input sc × (CanRun sc → ⊥) × (line ≡ not_built)
+
+-- why the input is no array
+abbrev pub IsArrayFault : List ℕ → RecipeFault → Type 0
+IsArrayFault input (recipe_faults.TooLarge size) = (5120 < length input) × (size ≡ length input)
+IsArrayFault input (recipe_faults.HeaderCut at left) = (length input ≤ 5120) × IsHeaderCut input at left
+IsArrayFault input (recipe_faults.ContentCut at wanted left) = (length input ≤ 5120) × IsContentCut input at wanted left
+IsArrayFault input recipe_faults.NoMemory = ⊥
+
+abbrev pub IsRecipeFault : List ℕ → List ℕ → Type 0
+IsRecipeFault input line = (fault : RecipeFault) × IsArrayFault input fault × (line ≡ recipe_fault fault)
+
+-- the line that a command writes where the input is not in its grammar
+abbrev pub Refuses : Command → List ℕ → List ℕ → Type 0
+Refuses commands.Check input line = IsScenarioFault input line
+Refuses commands.Play input line = IsScenarioFault input line ⊎ IsNotBuilt input line
+Refuses commands.Recipe input line = IsRecipeFault input line
+
+-- what a command comes to
+abbrev pub Comes : Command → List ℕ → Outcome → Type 0
+Comes command input (outcomes.Answered text) = Answers command input text.items
+Comes command input (outcomes.Refused line) = Refuses command input line.items
+
+-- the input is in the command's grammar
+abbrev pub IsIn : Command → List ℕ → Type 0
+IsIn commands.Check input = (sc : Scenario) × IsScenario input sc
+IsIn commands.Play input = (sc : Scenario) × IsScenario input sc × CanRun sc
+IsIn commands.Recipe input = (records : List Recipe) × IsArray input records
+
+-- the answer to the input was written, whole
+abbrev pub WritesAnswer : Option Command → List ℕ → Option (List ℕ) → Option (List ℕ) → Type 0
+WritesAnswer None input old new = ⊥
+WritesAnswer (Some command) input old new = (text : List ℕ) × Answers command input text × (length input ≤ limit) × Appends old new text
+
+-- the line of a refusal was written, whole
+abbrev pub WritesRefusal : Option Command → List ℕ → Option (List ℕ) → Option (List ℕ) → Type 0
+WritesRefusal None input old new = ⊥
+WritesRefusal (Some command) input old new = (line : List ℕ) × Refuses command input line × (length input ≤ limit) × Appends old new line
+
+-- a prefix of the answer, or of the line of a refusal, was written
+abbrev pub WritesPart : Option Command → List ℕ → Option (List ℕ) → Option (List ℕ) → Type 0
+WritesPart None input old new = ⊥
+WritesPart (Some command) input old new =
+    (text : List ℕ) × (n : ℕ) × (Answers command input text ⊎ Refuses command input text) × (length input ≤ limit) × Appends old new (take n text)
+
+-- the words are a form, and the input is short and in its grammar
+abbrev pub IsGood : Option Command → Option (List ℕ) → Type 0
+IsGood None input = ⊥
+IsGood (Some command) None = ⊥
+IsGood (Some command) (Some input) = IsIn command input × (length input ≤ limit)

@@ -1,0 +1,26 @@
+//! The top call: from the words and the bytes that are read to the bytes that are written.
+//!
+//! Its one invariant is that nothing is half done: the input is read to its end before it is looked at, and the text is
+//! made whole before the first byte of it is written. So each status tells what was written, and why.
+//!
+//! `run_steady` is a proved caller: over ends that never fail there is no status 3 or 4.
+#![tactic(auto)]
+
+mod check;
+mod command;
+mod fault;
+mod input;
+mod listing;
+mod outcome;
+mod output;
+mod play;
+mod recipe;
+mod run;
+mod steady;
+
+pub use command::Command;
+pub use run::run_plain;
+pub use steady::run_steady;
+
+#[cfg(test)]
+mod tests;

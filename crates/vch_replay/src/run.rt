@@ -1,0 +1,89 @@
+ghost use Rattle.std.specs.Prelude.{◌≡◌, ◌≢◌, ◌⊎◌, ◌↔◌, ◌≤◌, ◌+◌, length, map, IfOk, IfSome, None, string_bytes};
+ghost use Rattle.std.specs.Io.KnownBytes.{IsAtEnd};
+ghost use Rattle.vch_base.specs.Stream.{Rose};
+ghost use Rattle.vch_replay.specs.Commands.{command_of};
+ghost use Rattle.vch_replay.specs.Input.{limit, GaveTooMuch, GaveAtMost};
+ghost use Rattle.vch_replay.specs.Run.{Comes, WritesAnswer, WritesRefusal, WritesPart, IsGood};
+
+use crate::command::{Command, command_of};
+use crate::input::{InputFault, read_all};
+use crate::outcome::Outcome;
+use crate::output::write_all;
+use crate::{check, play, recipe};
+use std::alloc::Global;
+use vch_base::{NoMemory, Sink, Source};
+
+/// What a command comes to. Its text, or its line, is made whole.
+fn perform(alloc: Global, command: Command, input: &[u8]) -> Result<Outcome, NoMemory>
+    requires { length input.now ≤ 4194304 }
+    ensures { IfOk result (λ outcome. Comes command input.now outcome) }
+{
+    match command {
+        Command::Check => check::answer(alloc, input),
+        Command::Play => play::answer(alloc, input),
+        Command::Recipe => recipe::answer(alloc, input),
+    }
+}
+
+/// All that the program does, but for runs with workers. It always returns.
+///
+/// The words are `check`, `play` or `recipe`. The source is read to its end, or until 4,194,305 bytes were given; each read
+/// asks for at least one byte, so at most 4,194,305 reads happen. The text is made whole before the first write.
+///
+/// | status | when |
+/// |---|---|
+/// | 0 | done: the whole text was written |
+/// | 1 | the words are none of the forms |
+/// | 2 | the input is not in the grammar, or can't be run yet; one line says why |
+/// | 3 | the source failed |
+/// | 4 | the sink failed; a prefix of the text or of the line was written |
+/// | 5 | want of memory |
+/// | 6 | the source gave more than 4,194,304 bytes |
+pub fn run_plain<S: Source, K: Sink>(
+    alloc: Global,
+    words: &[String],
+    source: &mut S,
+    sink: &mut K,
+) -> u8
+    // The headline: the report of one legal and whole history of the scenario that was read, or the command's other text.
+    ensures answered { result ≡ 0 → IfSome (S.left source.old) (λ input. WritesAnswer (command_of (map string_bytes words.now)) input (K.written sink.old) (K.written sink.new)) }
+    // The source was read to its end.
+    ensures ended { (result ≡ 0) ⊎ (result ≡ 2) ⊎ (result ≡ 4) → IsAtEnd (S.left source.new) }
+
+    ensures words { (result ≡ 1) ↔ (command_of (map string_bytes words.now) ≡ None) }
+    ensures untouched { result ≡ 1 → (source.new ≡ source.old) × (sink.new ≡ sink.old) }
+    ensures refused { result ≡ 2 → IfSome (S.left source.old) (λ input. WritesRefusal (command_of (map string_bytes words.now)) input (K.written sink.old) (K.written sink.new)) }
+    ensures read_fault { result ≡ 3 → Rose (S.faults source.old) (S.faults source.new) }
+    ensures write_fault { result ≡ 4 → Rose (K.faults sink.old) (K.faults sink.new) }
+    ensures part { result ≡ 4 → IfSome (S.left source.old) (λ input. WritesPart (command_of (map string_bytes words.now)) input (K.written sink.old) (K.written sink.new)) }
+    ensures long { result ≡ 6 → GaveTooMuch (S.left source.old) (S.left source.new) }
+    ensures enough { result ≢ 6 → GaveAtMost limit (S.left source.old) (S.left source.new) }
+    ensures at_most { GaveAtMost (limit + 1) (S.left source.old) (S.left source.new) }
+    // Nothing was written.
+    ensures silent { (result ≡ 3) ⊎ (result ≡ 5) ⊎ (result ≡ 6) → sink.new ≡ sink.old }
+
+    // Words that are a form, input in the grammar and no fault are answered, unless memory runs out.
+    ensures complete { IsGood (command_of (map string_bytes words.now)) (S.left source.old) → (Rose (S.faults source.old) (S.faults source.new) → ⊥) → (Rose (K.faults sink.old) (K.faults sink.new) → ⊥) → (result ≡ 0) ⊎ (result ≡ 5) }
+    ensures statuses { result ≤ 6 }
+{
+    let Some(command) = command_of(words) else {
+        return 1;
+    };
+    let input = match read_all(alloc, source) {
+        Ok(input) => input,
+        Err(InputFault::Failed) => return 3,
+        Err(InputFault::NoMemory) => return 5,
+        Err(InputFault::TooLong) => return 6,
+    };
+    match perform(alloc, command, input.as_slice()) {
+        Ok(Outcome::Answered { text }) => match write_all(sink, text.as_slice()) {
+            Ok(()) => 0,
+            Err(_) => 4,
+        },
+        Ok(Outcome::Refused { line }) => match write_all(sink, line.as_slice()) {
+            Ok(()) => 2,
+            Err(_) => 4,
+        },
+        Err(NoMemory) => 5,
+    }
+}

@@ -1,0 +1,218 @@
+use crate::{run_plain, run_steady};
+use std::alloc::Global;
+use std::test::Fail;
+use vch_base::{MemSink, MemSource, SteadySink, SteadySource};
+
+/// Words, input, and what they must come to.
+struct Case {
+    words: &'static [&'static str],
+    input: &'static [u8],
+    status: u8,
+    output: &'static str,
+}
+
+const STORE: &[u8] =
+    b"vouch 1\ntasks 1\ntask 1\nphase\n1 create 07000000d300000000000000020000006162\n1 drop 1\nend\n";
+
+const CANONICAL: &str =
+    "vouch 1\ntasks 1\ntask 1\nphase\n1 create 07000000d300000000000000020000006162\n1 drop 1\nend\n";
+
+const STORED: &str =
+    "report 1\nmade 7 user 6162\ncall 1 1 create 0 1\ncall 1 2 drop 0\nreleased 1\nphase\ntask 1 ledger 0 held 0 out 0\nvouchers 0 values 1\nend\n";
+
+const CASES: &[Case] = &[
+    Case {
+        words: &["play"],
+        input: STORE,
+        status: 0,
+        output: STORED,
+    },
+    // Two equal vouchers are one, and its value is released after the last name.
+    Case {
+        words: &["play"],
+        input: b"vouch 1\ntasks 1\ntask 1\nphase\n1 create 07000000d300000000000000020000006162\n1 create 07000000d300000000000000020000006162\n1 drop 1\n1 drop 1\nend\n",
+        status: 0,
+        output: "report 1\nmade 7 user 6162\ncall 1 1 create 0 1\ncall 1 2 create 0 1\ncall 1 3 drop 0\ncall 1 4 drop 0\nreleased 1\nphase\ntask 1 ledger 0 held 0 out 0\nvouchers 0 values 1\nend\n",
+    },
+    // What is kept is counted: a name, and its value beside the default.
+    Case {
+        words: &["play"],
+        input: b"vouch 1\ntasks 1\ntask 1\nphase\n1 create 07000000d300000000000000020000006162\n1 drop 2\nend\n",
+        status: 0,
+        output: "report 1\nmade 7 user 6162\ncall 1 1 create 0 1\ncall 1 2 drop 15\nphase\ntask 1 ledger 0 held 0 out 0\nvouchers 1 values 2\nend\n",
+    },
+    Case {
+        words: &["play"],
+        input: b"vouch 1\ntasks 1\ntask 1\nphase\n1 create -\nend\n",
+        status: 2,
+        output: "fault not built\n",
+    },
+    Case {
+        words: &["play"],
+        input: b"vouch 1\ntasks 1\ntask 1 donor\nphase\nend\n",
+        status: 2,
+        output: "fault not built\n",
+    },
+    Case {
+        words: &["play"],
+        input: b"vouch 1\ntasks 1\ntask 1\nphase\nphase\nend\n",
+        status: 2,
+        output: "fault not built\n",
+    },
+    Case {
+        words: &["play"],
+        input: b"vouch 1\ntasks 1\ntas",
+        status: 2,
+        output: "fault line 3 why ending\n",
+    },
+    Case {
+        words: &["check"],
+        input: b"# first\nvouch 1\n\ntasks 1\ntask 1\nphase\n1 create 07000000D300000000000000020000006162\n1 drop 1\nend\n",
+        status: 0,
+        output: CANONICAL,
+    },
+    Case {
+        words: &["check"],
+        input: b"vouch 1\ntasks 65\n",
+        status: 2,
+        output: "fault line 2 why range\n",
+    },
+    Case {
+        words: &["check"],
+        input: b"vouch 1\ntasks 1\ntask 2\n",
+        status: 2,
+        output: "fault line 3 why range\n",
+    },
+    Case {
+        words: &["check"],
+        input: b"vouch 1\ntasks 1\ntask 1\nend\n",
+        status: 2,
+        output: "fault line 4 why form\n",
+    },
+    Case {
+        words: &["check"],
+        input: b"vouch 1\ntasks 1\ntask 1\nphase\n1 drop 01\nend\n",
+        status: 2,
+        output: "fault line 5 why form\n",
+    },
+    Case {
+        words: &["check"],
+        input: b"vouch 1\ntasks 1\ntask 1\nphase\n1  drop 1\nend\n",
+        status: 2,
+        output: "fault line 5 why form\n",
+    },
+    Case {
+        words: &["check"],
+        input: b"vouch 1\ntasks 1\ntask 1\nphase\n1 drop 4294967296\nend\n",
+        status: 2,
+        output: "fault line 5 why range\n",
+    },
+    Case {
+        words: &["recipe"],
+        input: b"\x07\x00\x00\x00\xd3\x00\x00\x00\x00\x00\x00\x00\x02\x00\x00\x00ab",
+        status: 0,
+        output: "recipe 7 211 0 6162\nend\n",
+    },
+    Case {
+        words: &["recipe"],
+        input: b"\x07\x00\x00\x00\xd3\x00\x00\x00\x00\x00\x00\x00\x02\x00\x00\x00a",
+        status: 2,
+        output: "fault content at 0 wanted 2 left 1\n",
+    },
+    Case {
+        words: &["recipe"],
+        input: b"\x07\x00\x00\x00\xd3\x00\x00\x00\x00\x00\x00\x00\x02\x00\x00",
+        status: 2,
+        output: "fault header at 0 left 15\n",
+    },
+    Case {
+        words: &["recipe"],
+        input: b"",
+        status: 0,
+        output: "end\n",
+    },
+    Case {
+        words: &["play", "01"],
+        input: STORE,
+        status: 1,
+        output: "",
+    },
+    Case {
+        words: &["paly"],
+        input: STORE,
+        status: 1,
+        output: "",
+    },
+    Case {
+        words: &[],
+        input: STORE,
+        status: 1,
+        output: "",
+    },
+];
+
+/// The words as the top call takes them.
+fn words_of(alloc: Global, words: &[&str]) -> Result<Vec<String>, Fail> {
+    let mut owned = Vec::new(alloc);
+    for word in words {
+        owned.push(String::from_str(alloc, word)?)?;
+    }
+    Ok(owned)
+}
+
+#[test]
+fn worked_runs(rt: HostRuntime) -> Result<(), Fail> {
+    let alloc = rt.alloc();
+    for case in CASES {
+        let words = words_of(alloc, case.words)?;
+        let mut source = SteadySource::new(Vec::from_slice(alloc, case.input)?);
+        let mut sink = SteadySink::new(alloc, 1000)?;
+        let status = run_steady(alloc, words.as_slice(), &mut source, &mut sink);
+        assert_eq!(rt; status, case.status);
+        assert_eq!(rt; sink.written(), case.output.as_bytes());
+    }
+    Ok(())
+}
+
+#[test]
+fn failing_ends(rt: HostRuntime) -> Result<(), Fail> {
+    let alloc = rt.alloc();
+    let words = words_of(alloc, &["play"])?;
+    let mut source = MemSource::new(Vec::from_slice(alloc, STORE)?, vec![in alloc; 2u64]?, 8);
+    let mut sink = MemSink::new(alloc, Vec::new(alloc), 10, 1000)?;
+    assert_eq!(rt;
+        run_plain(alloc, words.as_slice(), &mut source, &mut sink),
+        3
+    );
+    assert!(rt; sink.written().is_empty());
+    let mut source = MemSource::new(Vec::from_slice(alloc, STORE)?, Vec::new(alloc), 8);
+    let mut sink = MemSink::new(alloc, vec![in alloc; 2u64]?, 10, 1000)?;
+    assert_eq!(rt;
+        run_plain(alloc, words.as_slice(), &mut source, &mut sink),
+        4
+    );
+    assert_eq!(rt; sink.written(), b"report 1\nm".as_slice());
+    Ok(())
+}
+
+/// So many line feeds, read in pieces.
+fn status_of_line_feeds(alloc: Global, count: usize, sink: &mut SteadySink) -> Result<u8, Fail> {
+    let words = words_of(alloc, &["check"])?;
+    let mut source = MemSource::new(vec![in alloc; b'\n'; count]?, Vec::new(alloc), 4000);
+    Ok(run_plain(alloc, words.as_slice(), &mut source, sink))
+}
+
+#[test]
+fn the_most_bytes(rt: HostRuntime) -> Result<(), Fail> {
+    let alloc = rt.alloc();
+    let mut sink = SteadySink::new(alloc, 1000)?;
+    assert_eq!(rt; status_of_line_feeds(alloc, 4194304, &mut sink)?, 2);
+    assert_eq!(rt;
+        sink.written(),
+        b"fault line 4194305 why ending\n".as_slice()
+    );
+    let mut sink = SteadySink::new(alloc, 1000)?;
+    assert_eq!(rt; status_of_line_feeds(alloc, 4194305, &mut sink)?, 6);
+    assert!(rt; sink.written().is_empty());
+    Ok(())
+}

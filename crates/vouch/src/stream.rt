@@ -1,0 +1,99 @@
+//! The trusted edge: a source over a reader and a sink over a writer. They count their faults and tell nothing of content.
+ghost use Rattle.std.specs.Prelude.{◌≡◌, ◌≤◌, None, IfSome, length};
+
+use std::io::{ErrorKind, Read, Write};
+use vch_base::{Failed, Sink, Source};
+
+/// Reads once, or not at all where the reader fails. A read that the system interrupted is tried again.
+fn read_some<R: Read>(inner: &mut R, buffer: &mut [u8]) -> Option<usize>
+    ensures { IfSome result (λ count. count ≤ length buffer.new) }
+{
+    for _ in 0..u64::MAX {
+        match inner.read(buffer) {
+            Ok(count) => return Some(count),
+            Err(error) if error.kind() == ErrorKind::Interrupted => {}
+            Err(_) => return None,
+        }
+    }
+    None
+}
+
+/// Writes once, or not at all where the writer fails. A write that the system interrupted is tried again.
+fn write_some<W: Write>(inner: &mut W, piece: &[u8]) -> Option<usize>
+    ensures { IfSome result (λ count. count ≤ length piece.now) }
+{
+    for _ in 0..u64::MAX {
+        match inner.write(piece) {
+            Ok(count) => return Some(count),
+            Err(error) if error.kind() == ErrorKind::Interrupted => {}
+            Err(_) => return None,
+        }
+    }
+    None
+}
+
+/// A source over any reader.
+#[derive(Drop)]
+pub struct Input<R: Read> {
+    inner: R,
+    faults: u64,
+}
+
+impl<R: Read> Input<R> {
+    /// A source with no faults so far. It takes no memory.
+    pub fn new(inner: R) -> Input<R> {
+        Input { inner, faults: 0 }
+    }
+}
+
+impl<R: Read> Source for Input<R> {
+    ghost left = { λ s. None };
+
+    ghost faults = { λ s. s.faults };
+
+    fn read(&mut self, buffer: &mut [u8]) -> Result<usize, Failed> {
+        match read_some(&mut self.inner, buffer) {
+            Some(count) => Ok(count),
+            None => {
+                self.faults = self.faults.saturating_add(1);
+                Err(Failed)
+            }
+        }
+    }
+}
+
+/// A sink over any writer.
+#[derive(Drop)]
+pub struct Output<W: Write> {
+    inner: W,
+    faults: u64,
+}
+
+impl<W: Write> Output<W> {
+    /// A sink with no faults so far. It takes no memory.
+    pub fn new(inner: W) -> Output<W> {
+        Output { inner, faults: 0 }
+    }
+}
+
+impl<W: Write> Sink for Output<W> {
+    ghost written = { λ s. None };
+
+    ghost faults = { λ s. s.faults };
+
+    fn write(&mut self, piece: &[u8]) -> Result<usize, Failed> {
+        match write_some(&mut self.inner, piece) {
+            Some(0) => {
+                if !piece.is_empty() {
+                    self.faults = self.faults.saturating_add(1);
+                }
+                Ok(0)
+            }
+            Some(count) => Ok(count),
+            None => {
+                self.faults = self.faults.saturating_add(1);
+                Err(Failed)
+            }
+        }
+    }
+}
