@@ -30,9 +30,6 @@ below_told top w few =
       common_steps,
     ) in read_below top w n few r lt) (λ f. tt))
 
-abbrev pub found : {X : Type 0} → X → Option X
-found x = Some x
-
 pub below_again : (top : ℕ) (w : List ℕ) (n : ℕ) → top ≤ 10 ^ 64 → n < top → w ≡ decimal n → below top w ≡ Some n
 unfolding below
 below_again top w n few lt e =

@@ -18,8 +18,8 @@ use Rattle.vch_report.specs.WellFormed.{IsNumber, IsEntry, IsTotal}
 use Rattle.vch_report.specs.Items.{item_text}
 use Rattle.vch_report.specs.Lines.{released_of, release_of, phase_of, title_of, last_of, total_of, counts_of, call_item, made_item, small_item, item_by, item_of}
 use Rattle.vch_report.proofs.LineWords.{said, num, no_more, a_space, low_said, low_word, low_num, BelowAt, below_at_told, below_at_again, OrdinalAt, ordinal_at_told, ordinal_at_again, after_told, after_again}
-use Rattle.vch_report.proofs.MadeLines.{Made_at, made_told, made_again}
-use Rattle.vch_report.proofs.ReplyLines.{Call_at, call_told, call_rest, call_text, call_again, call_low}
+use Rattle.vch_report.proofs.MadeLines.{MadeAt, made_told, made_again}
+use Rattle.vch_report.proofs.ReplyLines.{CallAt, call_told, call_rest, call_text, call_again, call_low}
 
 abbrev pub IsItem : Item → Type 0
 IsItem items.Title = Unit {0}
@@ -130,13 +130,13 @@ counts_told rest =
 call_item_told : (rest : List ℕ) → Told (λ i. IsLine (codes "call" ++ rest) i) (call_item rest)
 unfolding call_item
 call_item_told rest =
-    told_bind (λ e. Call_at rest e) (λ i. IsLine (codes "call" ++ rest) i) (call_of rest) _ (call_told rest)
+    told_bind (λ e. CallAt rest e) (λ i. IsLine (codes "call" ++ rest) i) (call_of rest) _ (call_told rest)
     (λ e h. record { good = h.good; text = h.text })
 
 made_item_told : (rest : List ℕ) → Told (λ i. IsLine (codes "made" ++ rest) i) (made_item rest)
 unfolding made_item
 made_item_told rest =
-    told_bind (λ e. Made_at rest e) (λ i. IsLine (codes "made" ++ rest) i) (made_of rest) _ (made_told rest)
+    told_bind (λ e. MadeAt rest e) (λ i. IsLine (codes "made" ++ rest) i) (made_of rest) _ (made_told rest)
     (λ e h. record { good = h.good; text = h.text })
 
 -- a line that begins with the word

@@ -1,3 +1,4 @@
+pub mod Same
 pub mod Belows
 pub mod Lower
 pub mod LineWords

@@ -19,9 +19,10 @@ use Rattle.vch_report.specs.declared.fault.Stop.{Stop}
 use Rattle.vch_report.specs.declared.fault.Stop.TheVariants as stops
 use Rattle.vch_report.specs.Lines.{item_of}
 use Rattle.vch_report.specs.Items.{text_of}
-use Rattle.vch_report.specs.Faults.{IsReport, IsRead, IsFault, IsRefused, IsFaultOf, IsSame}
+use Rattle.vch_report.specs.Faults.{IsReport, IsRead, IsFault, IsRefused, IsFaultOf}
 use Rattle.vch_report.specs.Reading.{Read, kept, whole, with_item, step_of, finish, read_text, read_of, Gives, Reads, fault_at}
 use Rattle.vch_report.proofs.ChainWords.{chain_text}
+use Rattle.vch_report.proofs.Same.{found, found_at, right_is, wrong_is}
 use Rattle.vch_report.proofs.Wholes.{goes_on, lines_more, lines_none, read_again, read_report, read_fault, fault_again, whole_same}
 
 -- ---- lines
@@ -72,22 +73,16 @@ reads_by x r t e h = subst (λ (y : Result Read ℕ). Reads x y) e h
 
 -- ---- a line adds one total at most
 
-abbrev found : Read → Option Read
-found d = Some d
-
 abbrev Few : Read → Read → Type 0
 Few d e = length e.totals ≤ length d.totals + 1
 
-few_is : (d x e : Read) → found x ≡ found e → Few d x → Few d e
-few_is d x e h f = let same : x ≡ e = cc in subst (λ (y : Read). Few d y) same f
-
 few_total : (b : Bool) (d x e : Read) → cond b (found x) None ≡ Some e → Few d x → Few d e
-few_total true d x e h f = few_is d x e h f
+few_total true d x e h f = found_at (λ y. Few d y) x e h f
 few_total false d x e h f = absurd cc
 
 few_item : (p : Place) (d : Read) (i : Item) (e : Read) → with_item p d i ≡ Some e → Few d e
-few_item places.Title d items.Title e h = few_is d (record d { place = places.Entries }) e h (omega arith)
-few_item places.Entries d (items.Step y) e h = few_is d (record d { entries = d.entries ++ y ∷ [] }) e h (omega arith)
+few_item places.Title d items.Title e h = found_at (λ x. Few d x) (record d { place = places.Entries }) e h (omega arith)
+few_item places.Entries d (items.Step y) e h = found_at (λ x. Few d x) (record d { entries = d.entries ++ y ∷ [] }) e h (omega arith)
 few_item places.Entries d (items.Task t x) e h = few_total (eqb t (length d.totals + 1)) d
     (record d {
       place = places.Totals;
@@ -98,12 +93,12 @@ few_item places.Totals d (items.Task t x) e h = few_total (eqb t (length d.total
       place = places.Totals;
       totals = d.totals ++ x ∷ [];
     }) e h (omega (arith, length-append d.totals (x ∷ [])))
-few_item places.Totals d (items.Counts v w) e h = few_is d (record d {
+few_item places.Totals d (items.Counts v w) e h = found_at (λ x. Few d x) (record d {
   place = places.End;
   vouchers = v;
   values = w;
 }) e h (omega arith)
-few_item places.End d items.End e h = few_is d (record d { place = places.Done }) e h (omega arith)
+few_item places.End d items.End e h = found_at (λ x. Few d x) (record d { place = places.Done }) e h (omega arith)
 few_item p d i e h = absurd cc
 
 few_bind : (r : Option Item) (d e : Read) → (r >>= λ i. with_item d.place d i) ≡ Some e → Few d e
@@ -116,14 +111,8 @@ step_few d e l h = few_bind (item_of l) d e h
 
 -- ---- what reading answers
 
-abbrev right : Read → Result Read ℕ
-right d = Ok d
-
-right_is : (a b : Report) → right (whole a) ≡ right (whole b) → IsSame a b
-right_is a b h = let same : whole a ≡ whole b = cc in whole_same a b same
-
-wrong_is : (n k : ℕ) (r : Result Read ℕ) → r ≡ Err n → r ≡ Err k → n ≡ k
-wrong_is n k r h g = cc
+wrong_by : (n k : ℕ) (r : Result Read ℕ) → r ≡ Err n → r ≡ Err k → n ≡ k
+wrong_by n k r h g = wrong_is n k (sym h ∙ g)
 
 pub found_by : (text : List ℕ) (x : Result Report ReportFault) → Reads x (read_of text) → IfOk x (λ r. IsReport text r)
 found_by text (Ok r) h = read_report text r h
@@ -131,7 +120,7 @@ found_by text (Err e) h = tt
 
 pub only_by : (text : List ℕ) (x : Result Report ReportFault) (r : Report) → Reads x (read_of text)
     → IsReport text r → IsRead x r
-only_by text (Ok a) r h g = right_is a r (sym h ∙ read_again text r g)
+only_by text (Ok a) r h g = whole_same a r (right_is (whole a) (whole r) (sym h ∙ read_again text r g))
 only_by text (Err faults.NoMemory) r h g = tt
 only_by text (Err (faults.At line)) r h g = let e = read_again text r g in absurd cc
 
@@ -144,7 +133,7 @@ pub fault_only_by : (text : List ℕ) (x : Result Report ReportFault) (n : ℕ) 
     → IsFault text n → IsRefused x n
 fault_only_by text (Ok r) n h g = let e = fault_again text n g in absurd cc
 fault_only_by text (Err faults.NoMemory) n h g = tt
-fault_only_by text (Err (faults.At line)) n h g = wrong_is line n (read_of text) h (fault_again text n g)
+fault_only_by text (Err (faults.At line)) n h g = wrong_by line n (read_of text) h (fault_again text n g)
 
 -- ---- what is written, one more at a time
 

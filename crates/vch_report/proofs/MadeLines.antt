@@ -41,30 +41,30 @@ account_text h m = ap (λ l. codes " account " ++ (decimal h ++ (32 ∷ l))) (sy
 -- ---- what is read is so
 
 -- an entry that the line spells
-pub record Made_at (rest : List ℕ) (e : Entry) : Type 0 where
+pub record MadeAt (rest : List ℕ) (e : Entry) : Type 0 where
   pub good : IsEntry e
   pub text : behind_made rest ≡ entry_text e
 
-user_told : (rest more : List ℕ) → rest ≡ said (codes "7") more → Told (λ e. Made_at rest e) (user_of more)
+user_told : (rest more : List ℕ) → rest ≡ said (codes "7") more → Told (λ e. MadeAt rest e) (user_of more)
 unfolding user_of
 user_told rest more k =
     told_bind (λ r. more ≡ said (codes "user") r)
-    (λ e. Made_at rest e) (after (codes "user") more) _ (after_told (codes "user") more)
-    (λ r a. told_bind (λ b. BytesAt r b) (λ e. Made_at rest e) (bytes_at r) _ (bytes_at_told r)
+    (λ e. MadeAt rest e) (after (codes "user") more) _ (after_told (codes "user") more)
+    (λ r a. told_bind (λ b. BytesAt r b) (λ e. MadeAt rest e) (bytes_at r) _ (bytes_at_told r)
     (λ b h. record {
       good = (tt, h.bytes_are);
       text = ap behind_made (k ∙ ap (said (codes "7")) (a
           ∙ ap (said (codes "user")) h.parts)) ∙ sym (made_text 7 (values.User b) (omega arith));
     }))
 
-list_told : (rest more : List ℕ) → rest ≡ said (codes "2") more → Told (λ e. Made_at rest e) (list_of more)
+list_told : (rest more : List ℕ) → rest ≡ said (codes "2") more → Told (λ e. MadeAt rest e) (list_of more)
 unfolding list_of
 list_told rest more k =
     told_bind (λ r. more ≡ said (codes "list") r)
-    (λ e. Made_at rest e) (after (codes "list") more) _ (after_told (codes "list") more)
-    (λ r a. told_bind (λ x. Begins r x.0 x.1) (λ e. Made_at rest e) (word_at r) _ (word_told r)
-    (λ w b. told_bind (λ u. w.1 ≡ []) (λ e. Made_at rest e) (end_of w.1) _ (end_told w.1)
-    (λ u n. told_bind (λ ts. ChainAt w.0 ts) (λ e. Made_at rest e) (chain_of w.0) _ (chain_told w.0)
+    (λ e. MadeAt rest e) (after (codes "list") more) _ (after_told (codes "list") more)
+    (λ r a. told_bind (λ x. Begins r x.0 x.1) (λ e. MadeAt rest e) (word_at r) _ (word_told r)
+    (λ w b. told_bind (λ u. w.1 ≡ []) (λ e. MadeAt rest e) (end_of w.1) _ (end_told w.1)
+    (λ u n. told_bind (λ ts. ChainAt w.0 ts) (λ e. MadeAt rest e) (chain_of w.0) _ (chain_told w.0)
     (λ ts c. record {
       good = ((c.is.some, c.is.few), c.is.numbers);
       text =
@@ -74,11 +74,11 @@ list_told rest more k =
     }))))
 
 task_told : (rest more tail : List ℕ) → rest ≡ said (codes "3") more → more ≡ said (codes "task") tail
-    → Told (λ e. Made_at rest e) (task_of tail)
+    → Told (λ e. MadeAt rest e) (task_of tail)
 unfolding task_of
 task_told rest more tail k a =
-    told_bind (λ x. OrdinalAt tail x.0 x.1) (λ e. Made_at rest e) (ordinal_at tail) _ (ordinal_at_told tail)
-    (λ t h. told_bind (λ u. t.1 ≡ []) (λ e. Made_at rest e) (end_of t.1) _ (end_told t.1)
+    told_bind (λ x. OrdinalAt tail x.0 x.1) (λ e. MadeAt rest e) (ordinal_at tail) _ (ordinal_at_told tail)
+    (λ t h. told_bind (λ u. t.1 ≡ []) (λ e. MadeAt rest e) (end_of t.1) _ (end_told t.1)
     (λ u n. record {
       good = (tt, h.number);
       text = ap behind_made (k ∙ ap (said (codes "3")) (a ∙ ap (said (codes "task")) (h.parts ∙ ap (num t.0) n)
@@ -86,12 +86,12 @@ task_told rest more tail k a =
     }))
 
 account_told : (rest more tail : List ℕ) → rest ≡ said (codes "3") more → more ≡ said (codes "account") tail
-    → Told (λ e. Made_at rest e) (account_of tail)
+    → Told (λ e. MadeAt rest e) (account_of tail)
 unfolding account_of
 account_told rest more tail k a =
-    told_bind (λ x. OrdinalAt tail x.0 x.1) (λ e. Made_at rest e) (ordinal_at tail) _ (ordinal_at_told tail)
-    (λ t h. told_bind (λ x. OrdinalAt t.1 x.0 x.1) (λ e. Made_at rest e) (ordinal_at t.1) _ (ordinal_at_told t.1)
-    (λ m g. told_bind (λ u. m.1 ≡ []) (λ e. Made_at rest e) (end_of m.1) _ (end_told m.1)
+    told_bind (λ x. OrdinalAt tail x.0 x.1) (λ e. MadeAt rest e) (ordinal_at tail) _ (ordinal_at_told tail)
+    (λ t h. told_bind (λ x. OrdinalAt t.1 x.0 x.1) (λ e. MadeAt rest e) (ordinal_at t.1) _ (ordinal_at_told t.1)
+    (λ m g. told_bind (λ u. m.1 ≡ []) (λ e. MadeAt rest e) (end_of m.1) _ (end_told m.1)
     (λ u n. record {
       good = (tt, (h.number, g.number));
       text = ap behind_made (k ∙ ap (said (codes "3")) (a ∙ ap (said (codes "account")) (h.parts
@@ -99,25 +99,25 @@ account_told rest more tail k a =
           ∙ sym (made_text 3 (values.Account t.0 m.0) (omega arith));
     })))
 
-bank_told : (rest more : List ℕ) → rest ≡ said (codes "3") more → Told (λ e. Made_at rest e) (bank_of more)
+bank_told : (rest more : List ℕ) → rest ≡ said (codes "3") more → Told (λ e. MadeAt rest e) (bank_of more)
 unfolding bank_of
 bank_told rest more k =
-    told_bind (λ x. Begins more x.0 x.1) (λ e. Made_at rest e) (word_at more) _ (word_told more)
-    (λ w b. told_test (λ e. Made_at rest e) (is_word w.0 (codes "task")) (task_of w.1) _
+    told_bind (λ x. Begins more x.0 x.1) (λ e. MadeAt rest e) (word_at more) _ (word_told more)
+    (λ w b. told_test (λ e. MadeAt rest e) (is_word w.0 (codes "task")) (task_of w.1) _
     (λ t. task_told rest more w.1 k (b.parts ∙ ap (λ l. said l w.1) (word_true w.0 (codes "task") t)))
-    (λ f. told_test (λ e. Made_at rest e) (is_word w.0 (codes "account")) (account_of w.1) None
+    (λ f. told_test (λ e. MadeAt rest e) (is_word w.0 (codes "account")) (account_of w.1) None
     (λ t. account_told rest more w.1 k (b.parts
     ∙ ap (λ l. said l w.1) (word_true w.0 (codes "account") t))) (λ f. tt)))
 
-pub made_told : (rest : List ℕ) → Told (λ e. Made_at rest e) (made_of rest)
+pub made_told : (rest : List ℕ) → Told (λ e. MadeAt rest e) (made_of rest)
 unfolding made_of
 made_told rest =
-    told_bind (λ x. Begins rest x.0 x.1) (λ e. Made_at rest e) (word_at rest) _ (word_told rest)
-    (λ w b. told_test (λ e. Made_at rest e) (is_word w.0 (codes "7")) (user_of w.1) _
+    told_bind (λ x. Begins rest x.0 x.1) (λ e. MadeAt rest e) (word_at rest) _ (word_told rest)
+    (λ w b. told_test (λ e. MadeAt rest e) (is_word w.0 (codes "7")) (user_of w.1) _
     (λ t. user_told rest w.1 (b.parts ∙ ap (λ l. said l w.1) (word_true w.0 (codes "7") t)))
-    (λ f. told_test (λ e. Made_at rest e) (is_word w.0 (codes "2")) (list_of w.1) _
+    (λ f. told_test (λ e. MadeAt rest e) (is_word w.0 (codes "2")) (list_of w.1) _
     (λ t. list_told rest w.1 (b.parts ∙ ap (λ l. said l w.1) (word_true w.0 (codes "2") t)))
-    (λ f. told_test (λ e. Made_at rest e) (is_word w.0 (codes "3")) (bank_of w.1) None
+    (λ f. told_test (λ e. MadeAt rest e) (is_word w.0 (codes "3")) (bank_of w.1) None
     (λ t. bank_told rest w.1 (b.parts ∙ ap (λ l. said l w.1) (word_true w.0 (codes "3") t))) (λ f. tt))))
 
 -- ---- what is so is read

@@ -93,13 +93,13 @@ literal w n d some first v lt = numeral_decimal w n (record {
 }) lt
 
 -- a code and its word
-record Code_word (w : List ℕ) (n : ℤ) : Type 0 where
+record CodeWord (w : List ℕ) (n : ℤ) : Type 0 where
   pub word : w ≡ signed_decimal n
   pub read : code_of w ≡ coded n
   pub plain : above w ≡ true
   pub other : is_word w (codes "0") ≡ false
 
-code_4 : Code_word (codes "4") (pos 4)
+code_4 : CodeWord (codes "4") (pos 4)
 unfolding code_of is_word
 code_4 = record {
   word = literal (codes "4") 4 refl (omega arith) (omega arith) refl (omega arith);
@@ -108,7 +108,7 @@ code_4 = record {
   other = refl;
 }
 
-code_5 : Code_word (codes "5") (pos 5)
+code_5 : CodeWord (codes "5") (pos 5)
 unfolding code_of is_word
 code_5 = record {
   word = literal (codes "5") 5 refl (omega arith) (omega arith) refl (omega arith);
@@ -117,7 +117,7 @@ code_5 = record {
   other = refl;
 }
 
-code_6 : Code_word (codes "6") (pos 6)
+code_6 : CodeWord (codes "6") (pos 6)
 unfolding code_of is_word
 code_6 = record {
   word = literal (codes "6") 6 refl (omega arith) (omega arith) refl (omega arith);
@@ -126,7 +126,7 @@ code_6 = record {
   other = refl;
 }
 
-code_8 : Code_word (codes "8") (pos 8)
+code_8 : CodeWord (codes "8") (pos 8)
 unfolding code_of is_word
 code_8 = record {
   word = literal (codes "8") 8 refl (omega arith) (omega arith) refl (omega arith);
@@ -135,7 +135,7 @@ code_8 = record {
   other = refl;
 }
 
-code_15 : Code_word (codes "15") (pos 15)
+code_15 : CodeWord (codes "15") (pos 15)
 unfolding code_of is_word
 code_15 = record {
   word = literal (codes "15") 15 refl (omega arith) (omega arith) refl (omega arith);
@@ -144,7 +144,7 @@ code_15 = record {
   other = refl;
 }
 
-code_20 : Code_word (codes "20") (pos 20)
+code_20 : CodeWord (codes "20") (pos 20)
 unfolding code_of is_word
 code_20 = record {
   word = literal (codes "20") 20 refl (omega arith) (omega arith) refl (omega arith);
@@ -153,7 +153,7 @@ code_20 = record {
   other = refl;
 }
 
-code_array : Code_word (codes "-307") (negsuc 306)
+code_array : CodeWord (codes "-307") (negsuc 306)
 unfolding code_of is_word
 code_array = record {
   word = ap
@@ -163,7 +163,7 @@ code_array = record {
   other = refl;
 }
 
-code_task : Code_word (codes "268435459") (pos 268435459)
+code_task : CodeWord (codes "268435459") (pos 268435459)
 unfolding code_of is_word
 code_task = record {
   word = literal (codes "268435459") 268435459 refl (omega arith) (omega arith) refl
@@ -173,7 +173,7 @@ code_task = record {
   other = refl;
 }
 
-code_full : Code_word (codes "268435460") (pos 268435460)
+code_full : CodeWord (codes "268435460") (pos 268435460)
 unfolding code_of is_word
 code_full = record {
   word = literal (codes "268435460") 268435460 refl (omega arith) (omega arith) refl
@@ -183,7 +183,7 @@ code_full = record {
   other = refl;
 }
 
-code_voucher : Code_word (codes "268435461") (pos 268435461)
+code_voucher : CodeWord (codes "268435461") (pos 268435461)
 unfolding code_of is_word
 code_voucher = record {
   word = literal (codes "268435461") 268435461 refl (omega arith) (omega arith) refl
@@ -193,7 +193,7 @@ code_voucher = record {
   other = refl;
 }
 
-code_empty : Code_word (codes "268451843") (pos 268451843)
+code_empty : CodeWord (codes "268451843") (pos 268451843)
 unfolding code_of is_word
 code_empty = record {
   word = literal (codes "268451843") 268451843 refl (omega arith) (omega arith) refl
@@ -206,7 +206,7 @@ code_empty = record {
 -- ---- each code of the table
 
 abbrev HasWord : ℤ → Type 0
-HasWord n = (w : List ℕ) × Code_word w n
+HasWord n = (w : List ℕ) × CodeWord w n
 
 all_words : AllByRecursion HasWord refusals
 all_words = (
@@ -254,7 +254,7 @@ record IsCode (w : List ℕ) (c : Code) : Type 0 where
   pub word : w ≡ signed_decimal c.number
   pub refusal : IsRefusal c.number
 
-code_at : (w v : List ℕ) (n : ℤ) → Code_word v n → IsRefusal n → is_word w v ≡ true → IsCode w (record { number = n })
+code_at : (w v : List ℕ) (n : ℤ) → CodeWord v n → IsRefusal n → is_word w v ≡ true → IsCode w (record { number = n })
 code_at w v n c r t = record { word = word_true w v t ∙ c.word; refusal = r }
 
 code_told : (w : List ℕ) → Told (λ c. IsCode w c) (code_of w)
@@ -473,15 +473,15 @@ called_told rest =
     }))))
 
 -- an entry that the line spells
-pub record Call_at (rest : List ℕ) (e : Entry) : Type 0 where
+pub record CallAt (rest : List ℕ) (e : Entry) : Type 0 where
   pub good : IsEntry e
   pub text : codes "call" ++ rest ≡ entry_text e
 
-pub call_told : (rest : List ℕ) → Told (λ e. Call_at rest e) (call_of rest)
+pub call_told : (rest : List ℕ) → Told (λ e. CallAt rest e) (call_of rest)
 unfolding call_of
 call_told rest =
-    told_bind (λ x. CalledAt rest x) (λ e. Call_at rest e) (called_of rest) _ (called_told rest)
-    (λ x h. told_bind (λ r. Replied x.2 x.3 r) (λ e. Call_at rest e) (reply_of x.2 x.3) _ (reply_told x.2 x.3)
+    told_bind (λ x. CalledAt rest x) (λ e. CallAt rest e) (called_of rest) _ (called_told rest)
+    (λ x h. told_bind (λ r. Replied x.2 x.3 r) (λ e. CallAt rest e) (reply_of x.2 x.3) _ (reply_told x.2 x.3)
     (λ r g. record {
       good = (h.task, h.number, g.good);
       text = ap (λ l. codes "call" ++ l) (h.parts ∙ ap (λ l. num x.0 (num x.1 (said (word_text x.2) l))) g.text)
@@ -501,7 +501,7 @@ zero_again v rest r f h e =
     ) h in
     subst (λ (l : List ℕ). reply_of v (32 ∷ l) ≡ Some r) e read
 
-code_again : (v : Word) (w : List ℕ) (n : ℤ) → Code_word w n
+code_again : (v : Word) (w : List ℕ) (n : ℤ) → CodeWord w n
     → reply_of v (32 ∷ w) ≡ Some (replies.Refused (record { number = n }))
 unfolding reply_of refused_of
 code_again v w n c =

@@ -1,5 +1,5 @@
 -- What items make of a report.
-use Rattle.std.proofs.Common.{◌≡◌, ℕ, ◌+◌, ◌^◌, ◌<◌, ◌≤◌, Bool, true, false, cond, eqb, List, [], ◌∷◌, ◌++◌, length, Option, Some, None, refl, sym, ap, subst, ◌∙◌, arith, append_assoc, append-nil, length-append}
+use Rattle.std.proofs.Common.{◌≡◌, ℕ, ◌+◌, ◌^◌, ◌<◌, ◌≤◌, Bool, true, false, cond, eqb, List, [], ◌∷◌, ◌++◌, length, Option, Some, None, refl, sym, ap, ◌∙◌, arith, append_assoc, append-nil, length-append}
 use Rattle.std.proofs.lemmas.Grind.{common_steps}
 use Rattle.std.specs.List.{AllByRecursion}
 use Rattle.vch_model.specs.declared.entry.Entry.{Entry}
@@ -13,6 +13,7 @@ use Rattle.vch_report.specs.Items.{item_text}
 use Rattle.vch_report.specs.Lines.{item_of}
 use Rattle.vch_report.specs.Reading.{Read, nothing, with_item, with_total, step_of}
 use Rattle.vch_text.specs.Reading.{◌>>=◌}
+use Rattle.vch_report.proofs.Same.{found, found_at}
 use Rattle.vch_report.proofs.ItemLines.{IsItem, item_told, item_again}
 
 -- ---- the items of a report
@@ -76,12 +77,6 @@ all_push : {X : Type 0} (P : X → Type 0) (xs : List X) (x : X) → AllByRecurs
 all_push P [] x h p = (p, tt)
 all_push P (y ∷ xs) x h p = (h.0, all_push P xs x h.1 p)
 
-abbrev found : Read → Option Read
-found d = Some d
-
-found_is : (P : Read → Type 0) (d e : Read) → found d ≡ found e → P d → P e
-found_is P d e s p = let same : d ≡ e = cc in subst P same p
-
 -- what an item makes of what was read: it is good, and its items are those before and this one
 pub record Gone (p : Place) (d : Read) (i : Item) (e : Read) : Type 0 where
   pub good : IsGood e
@@ -116,7 +111,7 @@ next_total d t x n g h = record {
 }
 
 total_told : (P : Read → Type 0) (b : Bool) (d e : Read) → cond b (found d) None ≡ Some e → (b ≡ true → P d) → P e
-total_told P true d e s p = found_is P d e s (p refl)
+total_told P true d e s p = found_at P d e s (p refl)
 total_told P false d e s p = absurd cc
 
 test_true : (a b : ℕ) → eqb a b ≡ true → a ≡ b
@@ -125,10 +120,10 @@ test_true a b e = grind (arith, common_steps)
 with_told : (p : Place) (d : Read) (i : Item) (e : Read) → d.place ≡ p → GoodAt p d → IsItem i
     → with_item p d i ≡ Some e → Gone p d i e
 with_told places.Title d items.Title e at g h s =
-    found_is (λ x. Gone places.Title d items.Title x) (record d { place = places.Entries }) e s
+    found_at (λ x. Gone places.Title d items.Title x) (record d { place = places.Entries }) e s
     (record { good = (rw g.0 tt, g.1); items = rw g.0 refl })
 with_told places.Entries d (items.Step y) e at g h s =
-    found_is (λ x. Gone places.Entries d (items.Step y) x) (record d { entries = d.entries ++ y ∷ [] }) e s
+    found_at (λ x. Gone places.Entries d (items.Step y) x) (record d { entries = d.entries ++ y ∷ [] }) e s
     (record {
       good = rw at (all_push IsEntry d.entries y g.0 h, g.1);
       items = rw at (ap (λ l. items.Title ∷ l) (steps_push d.entries y));
@@ -146,7 +141,7 @@ with_told places.Totals d (items.Task t x) e at g h s =
       totals = d.totals ++ x ∷ [];
     }) e s (λ n. next_total d t x (test_true t (length d.totals + 1) n) g h)
 with_told places.Totals d (items.Counts v w) e at g h s =
-    found_is (λ x. Gone places.Totals d (items.Counts v w) x) (record d {
+    found_at (λ x. Gone places.Totals d (items.Counts v w) x) (record d {
       place = places.End;
       vouchers = v;
       values = w;
@@ -157,7 +152,7 @@ with_told places.Totals d (items.Counts v w) e at g h s =
           (sym (append_assoc (step_items d.entries) (task_items 1 d.totals) (items.Counts v w ∷ [])));
     })
 with_told places.End d items.End e at g h s =
-    found_is (λ x. Gone places.End d items.End x) (record d { place = places.Done }) e s
+    found_at (λ x. Gone places.End d items.End x) (record d { place = places.Done }) e s
     (record {
       good = record { listed = g.listed; vouchers = g.vouchers; values = g.values };
       items = ap (λ l. items.Title ∷ l) (ap
@@ -236,7 +231,7 @@ pub record Went (d : Read) (lines : List (List ℕ)) (e : Read) : Type 0 where
   pub spelled : item_lines (items_read e) ≡ item_lines (items_read d) ++ lines
 
 pub go_told : (d e : Read) (lines : List (List ℕ)) → IsGood d → go d lines ≡ Some e → Went d lines e
-go_told d e [] g s = found_is (λ x. Went d [] x) d e s (record {
+go_told d e [] g s = found_at (λ x. Went d [] x) d e s (record {
   good = g;
   spelled = sym (append-nil (item_lines (items_read d)));
 })

@@ -8,6 +8,7 @@ use Rattle.vch_report.specs.declared.draft.Place.{Place}
 use Rattle.vch_report.specs.declared.draft.Place.TheVariants as places
 use Rattle.vch_report.specs.Faults.{IsReport, IsSame, lines_text, IsBegun, IsStuck, IsFault}
 use Rattle.vch_report.specs.Reading.{Read, nothing, step_of, whole, is_done, is_empty, finish, read_lines, read_text, read_of}
+use Rattle.vch_report.proofs.Same.{found, found_is, right, right_is, wrong, wrong_is}
 use Rattle.vch_report.proofs.Runs.{go, go_append}
 use Rattle.vch_report.proofs.Begun.{IsOne, split_lines, split_ones, lines_of, report_split, report_goes, whole_report, begun, begun_shorter}
 
@@ -25,24 +26,6 @@ lines_more n d l lines rest = refl
 pub lines_none : (n : ℕ) (d : Read) (rest : List ℕ) → read_lines n d [] rest ≡ finish n d rest
 unfolding read_lines
 lines_none n d rest = refl
-
-abbrev right : Read → Result Read ℕ
-right d = Ok d
-
-right_is : (d e : Read) → right d ≡ right e → d ≡ e
-right_is d e h = cc
-
-abbrev wrong : ℕ → Result Read ℕ
-wrong n = Err n
-
-wrong_is : (n k : ℕ) → wrong n ≡ wrong k → n ≡ k
-wrong_is n k h = cc
-
-abbrev found : Read → Option Read
-found d = Some d
-
-found_is : (d e : Read) → found d ≡ found e → d ≡ e
-found_is d e h = cc
 
 -- ---- a whole report
 
@@ -176,7 +159,7 @@ ones_front [] b h = tt
 ones_front (l ∷ a) b h = (h.0, ones_front a b h.1)
 
 -- what was read so far of a text
-record So_far (text : List ℕ) (before lines : List (List ℕ)) (rest : List ℕ) (n : ℕ) (d : Read) : Type 0 where
+record SoFar (text : List ℕ) (before lines : List (List ℕ)) (rest : List ℕ) (n : ℕ) (d : Read) : Type 0 where
   parts : split_of text ≡ pair (before ++ lines) rest
   count : n ≡ length before + 1
   goes : go nothing before ≡ Some d
@@ -187,8 +170,8 @@ go_more before l d e g s = go_append nothing before (l ∷ []) ∙ ap (λ (r : O
     ∙ ap (λ (r : Option Read). r >>= λ x. go x []) s
 
 next_far : (text : List ℕ) (before : List (List ℕ)) (l : List ℕ) (lines : List (List ℕ)) (rest : List ℕ) (n : ℕ)
-    (d e : Read) → So_far text before (l ∷ lines) rest n d → step_of d l ≡ Some e
-    → So_far text (before ++ l ∷ []) lines rest (n + 1) e
+    (d e : Read) → SoFar text before (l ∷ lines) rest n d → step_of d l ≡ Some e
+    → SoFar text (before ++ l ∷ []) lines rest (n + 1) e
 next_far text before l lines rest n d e f s = record {
   parts = f.parts ∙ ap (λ x. pair x rest) (sym (append_assoc before (l ∷ []) lines));
   count = let k = f.count in omega (arith, length-append before (l ∷ []));
@@ -196,7 +179,7 @@ next_far text before l lines rest n d e f s = record {
 }
 
 stop_far : (text : List ℕ) (before : List (List ℕ)) (l : List ℕ) (lines : List (List ℕ)) (rest : List ℕ) (n k : ℕ)
-    (d : Read) → So_far text before (l ∷ lines) rest n d → step_of d l ≡ None → wrong n ≡ wrong k → IsFault text k
+    (d : Read) → SoFar text before (l ∷ lines) rest n d → step_of d l ≡ None → wrong n ≡ wrong k → IsFault text k
 stop_far text before l lines rest n k d f s e =
     let lines_are : (split_of text).0 ≡ before ++ l ∷ lines = ap (λ (p : List (List ℕ) × List ℕ). p.0) f.parts in
     let all : AllByRecursion IsOne (before ++ l ∷ lines) = subst
@@ -214,15 +197,15 @@ stop_far text before l lines rest n k d f s e =
     }
 
 fault_more : (text : List ℕ) (before : List (List ℕ)) (l : List ℕ) (lines : List (List ℕ)) (rest : List ℕ) (n k : ℕ)
-    (d : Read) → So_far text before (l ∷ lines) rest n d
+    (d : Read) → SoFar text before (l ∷ lines) rest n d
     → (r : Option Read) → step_of d l ≡ r → goes_on n lines rest r ≡ Err k → ((e : Read)
-    → So_far text (before ++ l ∷ []) lines rest (n + 1) e → read_lines (n + 1) e lines rest ≡ Err k
+    → SoFar text (before ++ l ∷ []) lines rest (n + 1) e → read_lines (n + 1) e lines rest ≡ Err k
     → IsFault text k) → IsFault text k
 fault_more text before l lines rest n k d f (Some e) s h rec = rec e (next_far text before l lines rest n d e f s) h
 fault_more text before l lines rest n k d f None s h rec = stop_far text before l lines rest n k d f s h
 
 fault_told : (text : List ℕ) (before lines : List (List ℕ)) (rest : List ℕ) (n k : ℕ) (d : Read)
-    → So_far text before lines rest n d → read_lines n d lines rest ≡ Err k → IsFault text k
+    → SoFar text before lines rest n d → read_lines n d lines rest ≡ Err k → IsFault text k
 fault_told text before [] rest n k d f h =
     let ends = sym (lines_none n d rest) ∙ h in
     let parts : split_of text ≡ pair before rest = f.parts ∙ ap (λ x. pair x rest) (append-nil before) in
