@@ -4,6 +4,7 @@ pub mod Lower
 pub mod LineWords
 pub mod ChainWords
 pub mod MadeLines
+pub mod CodeLines
 pub mod ReplyLines
 pub mod Chains
 pub mod ItemLines
