@@ -11,7 +11,8 @@ use Rattle.vch_base.specs.declared.key.Key.{Key}
 use Rattle.vch_base.specs.declared.places.Live.{Live}
 use Rattle.vch_base.specs.Managers.{Kept, live_at, after_release}
 use Rattle.vch_base.specs.Slots.{is_taken, slot_at}
-use Rattle.vch_entry.specs.Entries.{handle_at}
+use Rattle.vch_entry.specs.Entries as entry
+use Rattle.vch_entry.specs.Entries.{handle_at, entry_at}
 use Rattle.vch_table.specs.declared.indices.KeyedIndex.{KeyedIndex}
 use Rattle.vch_value.specs.declared.flight.Claim as flight
 use Rattle.vch_value.specs.declared.flight.Asked.{Asked}
@@ -36,12 +37,12 @@ use Rattle.vch_state.specs.declared.tally.Tally.{Tally}
 use Rattle.vch_state.specs.Plain.{Plain, KeyParts, part_of, with_frame, number_at}
 use Rattle.vch_state.specs.Shape.{Shape, Optional, IsIndexOf, IsClaim, IsFrame, IsTask, slots_of}
 use Rattle.vch_state.specs.Pictures.{picture_of, frame_claimed, claimed_of, claimed, sync_of, same_key}
-use Rattle.vch_state.specs.Bounds.{rank, answered, calls_of}
+use Rattle.vch_state.specs.Bounds.{rank, makes, open_of, flying_of, in_all, unanswered_in}
 use Rattle.vch_state.specs.Stands.{StandsFor, KeyStands, IsLiving, SameTally}
 use Rattle.vch_state.specs.Moves.{with_values, with_frame_at, one_asked, noted_release, less_room}
 use Rattle.vch_state.proofs.Stable.{task_stays, frame_stays}
 use Rattle.vch_state.proofs.Replaced.{picture_by, claims_before, claims_behind, shape_then, framed}
-use Rattle.vch_state.proofs.Spending.{spent_then, work_same}
+use Rattle.vch_state.proofs.Spending.{spent_then, unanswered_then, begun_then, open_then, work_same, makes_same}
 use Rattle.vch_state.proofs.Keys.{of_with, same_key_refl, each_key, cells_same}
 use Rattle.vch_state.proofs.LetsGo.{leaving_frame, leaving_machine}
 use Rattle.vch_state.proofs.OneClaim as one
@@ -226,11 +227,17 @@ module _ (sc : Scenario) (k : Key) (c : Plain) (m : Machine) (t : ℕ) (positive
       let n : number ≡ made_of (living_at m.live (at_place k h)) = number_is number (live_at (of_key k c.keyed).kept.slots h) (living_at m.live (at_place k h)) l alive (s.keyed.0.living h) in
       rw (n, s.history) (sym (one_behind (entries.Released (made_of (living_at m.live (at_place k h)))) m.past))
 
-  room : (b : Bool) → (count_by is_taken (after_release (of_key k c.keyed).kept h b).slots + 0) + (calls_of sc - answered (asked_machine m t (leaving_machine w place keys rest (Some y)) y b).past) + (length sc.phases - c.phase) ≤ less_room b c.spare
+  opens : open_of (Some G2) ≡ open_of (tasked m t).frame
+  opens = sym (ap open_of task)
+
+  unanswered : in_all (unanswered_in sc) then_machine ≡ in_all (unanswered_in sc) m
+  unanswered = unanswered_then sc m then_machine t (Some G2) positive inside_tasks tasks_are opens
+
+  room : (b : Bool) → (count_by is_taken (after_release (of_key k c.keyed).kept h b).slots + 0) + in_all (unanswered_in sc) m + (length sc.phases - c.phase) ≤ less_room b c.spare
   room false = s.room
   room true =
       let f : count_by is_taken (set (of_key k c.keyed).kept.slots h None) + 1 ≡ count_by is_taken (of_key k c.keyed).kept.slots = fewer (of_key k c.keyed).kept.slots h l alive in
-      less (count_by is_taken (set (of_key k c.keyed).kept.slots h None)) (count_by is_taken (of_key k c.keyed).kept.slots) (calls_of sc - answered m.past) (length sc.phases - c.phase) c.spare f s.room
+      less (count_by is_taken (set (of_key k c.keyed).kept.slots h None)) (count_by is_taken (of_key k c.keyed).kept.slots) (in_all (unanswered_in sc) m) (length sc.phases - c.phase) c.spare f s.room
     where
       less : (a b x y z : ℕ) → a + 1 ≡ b → (b + 0) + x + y ≤ z → (a + 0) + x + y ≤ z - 1
       less a b x y z e r = omega arith
@@ -244,6 +251,8 @@ module _ (sc : Scenario) (k : Key) (c : Plain) (m : Machine) (t : ℕ) (positive
         used = rw is_new (used b);
         row = rw is_new (row b);
         counts = rw is_new (subst (λ (q : Picture). picture.Stands q (of_key k c.keyed).entries kept2) (sym picture_after) counts);
+        made = λ i. rw is_new (subst (λ n. entry.made_of (entry_at (of_key k c.keyed).entries.slots i) ≤ n) (sym (ap (λ (z : machine.Tally). z.refers) tally_is)) (s.keyed.0.made i));
+        few = few;
       },
       tt,
     );
@@ -252,14 +261,40 @@ module _ (sc : Scenario) (k : Key) (c : Plain) (m : Machine) (t : ℕ) (positive
     phase = s.phase ∙ sym (phases b);
     tally = record { claims = s.tally.claims ∙ sym (ap (λ (z : machine.Tally). z.claims) tally_is); refers = s.tally.refers ∙ sym (ap (λ (z : machine.Tally). z.refers) tally_is); asks = ap (λ n. n + 1) s.tally.asks ∙ sym (ap (λ (z : machine.Tally). z.asks) tally_is) };
     asked = rw is_new (asked_one c.tally.asks (of_key k c.keyed).kept.asked kept2.asked s.asked (more_asked b));
-    room = rw is_new (room b);
-    spent = spent_then sc m then_machine t (Some G2) positive inside_tasks tasks_are
-        (subst (λ (z : machine.Tally). (z.claims + z.refers) + rank (current sc m t) (Some G2) ≤ (m.tally.claims + m.tally.refers) + rank (current sc m t) (tasked m t).frame) (sym tally_is)
-        (subst (λ o. (m.tally.claims + m.tally.refers) + rank (current sc m t) (Some G2) ≤ (m.tally.claims + m.tally.refers) + rank (current sc m t) o) (sym task)
-        (same_work (work_same (current sc m t) G2 (leaving_machine w place keys rest (Some y)) w refl refl)))) s.spent;
+    room = rw (is_new, unanswered) (room b);
+    slots = rw (open_then m then_machine t (Some G2) positive inside_tasks tasks_are opens, begun_then m then_machine t (Some G2) positive inside_tasks tasks_are) s.slots;
+    spent = spent_then sc m then_machine t (Some G2) positive inside_tasks tasks_are (record {
+      done =
+          subst (λ (z : machine.Tally). (z.claims + z.refers) + rank (current sc m t) (Some G2) ≤ (m.tally.claims + m.tally.refers) + rank (current sc m t) (tasked m t).frame) (sym tally_is)
+          (subst (λ o. (m.tally.claims + m.tally.refers) + rank (current sc m t) (Some G2) ≤ (m.tally.claims + m.tally.refers) + rank (current sc m t) o) (sym task)
+          (same_work (work_same (current sc m t) G2 (leaving_machine w place keys rest (Some y)) w refl refl)));
+      refers = ap (λ (z : machine.Tally). z.refers) tally_is;
+      makes = makes_same (current sc m t) G2 (leaving_machine w place keys rest (Some y)) w refl refl ∙ sym (ap (makes (current sc m t)) task);
+      opens = opens;
+      flying = sym (ap flying_of task);
+      past = past b;
+      phases = phases b;
+    }) s.spent;
     fits = fits;
   }
     where
+      used_same : (b : Bool) → (of_key k (if b then released m (at_place k h) else m).pools).used ≡ (of_key k m.pools).used
+      used_same false = refl
+      used_same true = ap (λ (z : machine.Pool). z.used) (of_with k (more_free (of_key k m.pools) h) m.pools)
+
+      few : (of_key k (if b then released m (at_place k h) else m).pools).used ≤ then_machine.tally.refers + length (picture_of k then_parts then_machine).receipts + 1
+      few =
+          let a : length (picture_of k then_parts then_machine).receipts ≡ length P.receipts = ap (λ (q : Picture). length q.receipts) picture_after in
+          let d : length (picture_of k c m).receipts ≡ length P.receipts = ap (λ (q : Picture). length q.receipts) (one.is_now sc k c m t positive inside v at key ls w place keys rest (Claiming.Claimed k x) y own task refl s) in
+          let r : then_machine.tally.refers ≡ m.tally.refers = ap (λ (z : machine.Tally). z.refers) tally_is in
+          let f : (of_key k m.pools).used ≤ m.tally.refers + length (picture_of k c m).receipts + 1 = s.keyed.0.few in
+          let u : (of_key k (if b then released m (at_place k h) else m).pools).used ≡ (of_key k m.pools).used = used_same b in
+          omega (arith, a, d, r, f, u)
+
+      past : (b : Bool) → length (asked_machine m t (leaving_machine w place keys rest (Some y)) y b).past + m.tally.asks ≤ length m.past + (asked_machine m t (leaving_machine w place keys rest (Some y)) y b).tally.asks
+      past true = omega arith
+      past false = omega arith
+
       asked_one : (a b d : ℕ) → a ≡ b + 0 → d ≡ b + 1 → a + 1 ≡ d + 0
       asked_one a b d e f = omega arith
 

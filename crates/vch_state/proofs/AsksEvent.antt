@@ -236,9 +236,9 @@ module _ (p : Parts) (t : ℕ) (f : Frame) (key : Key) (x : flight.Claim) (task 
 
 -- questions are few
 pub asks_few : (p : Parts) → Reached p → p.tally.asks < 2 ^ 63
-asks_few p r = from_reached p _ r (λ m limited s. few p.tally.asks m.tally.asks m.tally.claims m.tally.refers _ s.tally.asks s.fits.counted (done_bound p.scenario m limited s.spent s.fits))
+asks_few p r = from_reached p _ r (λ m limited s. few p.tally.asks m.tally.asks m.tally.claims m.tally.refers _ s.tally.asks s.fits.counted (done_bound p.scenario m limited s.spent))
   where
-    few : (a b c d e : ℕ) → a ≡ b → b + e ≤ d → c + d ≤ 6710886400000 → a < 2 ^ 63
+    few : (a b c d e : ℕ) → a ≡ b → b + e ≤ d → c + d ≤ 104857600000 → a < 2 ^ 63
     few a b c d e q r l = omega arith
 
 pub asked_few : (p : Parts) → Reached p → p.user.asked < 2 ^ 63

@@ -15,7 +15,7 @@ use Rattle.vch_state.specs.declared.frame.KeyIndex.{KeyIndex}
 use Rattle.vch_state.specs.Plain.{Plain, closed, is_nothing}
 use Rattle.vch_state.specs.Shape.{Optional, Pairwise, IsFrame, IsClaim, IsLet}
 use Rattle.vch_state.specs.Pictures.{frame_holds, receipts_of, receipt_of, frame_claimed, claimed_of, forming_holds}
-use Rattle.vch_state.specs.Bounds.{rank, work_left}
+use Rattle.vch_state.specs.Bounds.{rank, work_left, makes, open_of, flying_of}
 
 -- the test of a frame that is gone
 abbrev pub stays : Frame → Bool
@@ -122,3 +122,31 @@ rank_closed call g = by (remains g) refl
     by false e =
         let n = or_none (is_some g.forming) (is_some g.receipt) (is_some g.claim) (not (is_empty g.lets)) e in
         rw (none_of g.forming n.0, empty_of g.lets n.3) refl
+
+-- nor a call without an answer, nor a receipt in flight
+pub makes_closed : (call : Option Call) (g : machine.Frame) → makes call (frames.closed g) ≡ makes call (Some g)
+makes_closed call g = by (remains g) refl
+  where
+    by : (b : Bool) → remains g ≡ b → makes call (cond b (Some g) None) ≡ makes call (Some g)
+    by true e = refl
+    by false e =
+        let n = or_none (is_some g.forming) (is_some g.receipt) (is_some g.claim) (not (is_empty g.lets)) e in
+        rw (none_of g.forming n.0) refl
+
+pub open_closed : (g : machine.Frame) → open_of (frames.closed g) ≡ open_of (Some g)
+open_closed g = by (remains g) refl
+  where
+    by : (b : Bool) → remains g ≡ b → open_of (cond b (Some g) None) ≡ open_of (Some g)
+    by true e = refl
+    by false e =
+        let n = or_none (is_some g.forming) (is_some g.receipt) (is_some g.claim) (not (is_empty g.lets)) e in
+        rw (none_of g.forming n.0) refl
+
+pub flying_closed : (g : machine.Frame) → flying_of (frames.closed g) ≡ flying_of (Some g)
+flying_closed g = by (remains g) refl
+  where
+    by : (b : Bool) → remains g ≡ b → flying_of (cond b (Some g) None) ≡ flying_of (Some g)
+    by true e = refl
+    by false e =
+        let n = or_none (is_some g.forming) (is_some g.receipt) (is_some g.claim) (not (is_empty g.lets)) e in
+        rw (none_of g.receipt n.1) refl

@@ -14,6 +14,7 @@ use Rattle.vch_model.specs.declared.lists.Scenario.{Scenario}
 use Rattle.vch_machine.specs.State as machine
 use Rattle.vch_machine.specs.State.{Keyed, Tasked, Machine, idle, tasked}
 use Rattle.vch_model.specs.Rows as rows
+use Rattle.vch_model.specs.Lines.{lines_of}
 use Rattle.vch_table.specs.declared.table.Cell.{Cell}
 use Rattle.vch_machine.specs.Next.{current, nth_call}
 use Rattle.vch_legal.proofs.Keeps.{start_keeps}
@@ -23,8 +24,9 @@ use Rattle.vch_state.specs.Plain.{Plain, Part, idle_part, part_of, no_numbers, r
 use Rattle.vch_state.specs.Fresh.{AreFresh, all_resting}
 use Rattle.vch_state.specs.Shape.{IsTask, IsTable, Shape, referred_by}
 use Rattle.vch_state.specs.Pictures.{Both, both, picture_of, task_holds, part_expects, both_claimed}
-use Rattle.vch_state.specs.Bounds.{Limited, Spent, calls_of, total_rank, total_begun}
+use Rattle.vch_state.specs.Bounds.{Limited, Spent, TaskSpent, calls_of, sum_tasks, in_all, rank_in, makes_in, open_in, references_in, unanswered_in}
 use Rattle.vch_state.specs.Stands.{StandsFor}
+use Rattle.vch_state.proofs.Sums.{sum_bounded}
 use Rattle.vch_state.specs.Reached.{plain_of, parts_in, part_in, IsState, IsEnd}
 
 abbrev idles : List Flags → List Tasked
@@ -75,9 +77,10 @@ no_referred : (s : ℕ) (flags : List Flags) → referred_by s (rests flags) ≡
 no_referred s [] = refl
 no_referred s (x ∷ flags) = let e : referred_by s (rests flags) ≡ 0 = no_referred s flags in omega (arith, e)
 
-no_rank : (sc : Scenario) (t : ℕ) (flags : List Flags) → total_rank sc t (idles flags) ≡ 0
-no_rank sc t [] = refl
-no_rank sc t (x ∷ flags) = let e : total_rank sc (t + 1) (idles flags) ≡ 0 = no_rank sc (t + 1) flags in omega (arith, e)
+-- at the start a sum over the tasks is none where an idle task has none
+no_sum : (f : ℕ → Tasked → ℕ) → ((t : ℕ) → f t idle ≡ 0) → (t : ℕ) (flags : List Flags) → sum_tasks f t (idles flags) ≡ 0
+no_sum f h t [] = refl
+no_sum f h t (x ∷ flags) = let a : f t idle ≡ 0 = h t in let e : sum_tasks f (t + 1) (idles flags) ≡ 0 = no_sum f h (t + 1) flags in omega (arith, a, e)
 
 pub limited_of : (sc : Scenario) → IsLimited sc → Limited sc
 limited_of sc l = record { tasks = l.tasks; phases = l.phases; calls = omega (arith, l.calls) }
@@ -87,6 +90,15 @@ module _ (sc : Scenario) (c : Plain) (limited : IsLimited sc)
     (claims : c.tally.claims ≡ 0) (refers : c.tally.refers ≡ 0) (asks : c.tally.asks ≡ 0)
     (entries : c.keyed.user.entries.slots ≡ []) (kept : c.keyed.user.kept ≡ record { slots = []; free = []; ledgers = []; asked = 0; rules = user_rules })
     (room : line_count sc.phases + length sc.phases ≤ c.spare) where
+  none_in : (f : ℕ → Tasked → ℕ) → ((t : ℕ) → f t idle ≡ 0) → in_all f (machine.start sc) ≡ 0
+  none_in f h = no_sum f h 1 sc.flags
+
+  unanswered : in_all (unanswered_in sc) (machine.start sc) ≤ line_count sc.phases
+  unanswered = sum_bounded (unanswered_in sc) sc (idles sc.flags) (λ i l. subst (λ (y : Tasked). unanswered_in sc (1 + i) y ≤ length (lines_of sc (1 + i))) (sym (idle_at sc.flags i)) (idle_unanswered (1 + i)))
+    where
+      idle_unanswered : (t : ℕ) → unanswered_in sc t idle ≤ length (lines_of sc t)
+      idle_unanswered t = omega arith
+
   abbrev empty : Picture
   empty = record { holders = []; receipts = []; claims = [] }
 
@@ -109,7 +121,7 @@ module _ (sc : Scenario) (c : Plain) (limited : IsLimited sc)
 
   pub start_stands : StandsFor sc (keys.User ∷ []) c (machine.start sc)
   start_stands = record {
-    keyed = (record { living = λ h. rw kept tt; free = rw kept refl; used = rw kept refl; row = rw kept refl; counts = counts }, tt);
+    keyed = (record { living = λ h. rw kept tt; free = rw kept refl; used = rw kept refl; row = rw kept refl; counts = counts; made = λ i. rw entries (omega arith); few = omega arith }, tt);
     shape = record {
       long = ap length tasks ∙ same_length sc.flags;
       tasks = λ t p i. every_task t;
@@ -122,19 +134,20 @@ module _ (sc : Scenario) (c : Plain) (limited : IsLimited sc)
     phase = phase;
     tally = record { claims = claims; refers = refers; asks = asks };
     asked = rw (kept, asks) refl;
-    room = rw (kept, phase) (omega (arith, room));
-    spent = record { done = done_none; begun = λ t. subst (λ (y : Tasked). y.begun ≤ calls_of sc) (sym (idle_at sc.flags (t - 1))) none };
+    room = rw (kept, phase) (let a = unanswered in omega (arith, a, room));
+    slots = rw table (let a : in_all open_in (machine.start sc) ≡ 0 = none_in open_in (λ t. refl) in omega (arith, a));
+    spent = record {
+      done = let a : in_all (rank_in sc) (machine.start sc) ≡ 0 = none_in (rank_in sc) (λ t. refl) in omega (arith, a);
+      makes = let a : in_all (makes_in sc) (machine.start sc) ≡ 0 = none_in (makes_in sc) (λ t. refl) in omega (arith, a);
+      references =
+          let a : in_all references_in (machine.start sc) ≡ 0 = none_in references_in (λ t. refl) in
+          let b : in_all open_in (machine.start sc) ≡ 0 = none_in open_in (λ t. refl) in omega (arith, a, b);
+      past = let b : in_all open_in (machine.start sc) ≡ 0 = none_in open_in (λ t. refl) in omega (arith, b);
+      phases = omega arith;
+      tasks = λ i. subst (TaskSpent sc (i + 1)) (sym (idle_at sc.flags i)) (record { begun = omega arith; next = omega arith });
+    };
     fits = start_keeps sc;
   }
-    where
-      none : 0 ≤ calls_of sc
-      none = omega arith
-
-      zero_work : (a b : ℕ) → a ≡ 0 → 0 + 0 + a ≤ 100000 * b
-      zero_work a b e = omega arith
-
-      done_none : 0 + 0 + total_rank sc 1 (idles sc.flags) ≤ 100000 * total_begun (idles sc.flags)
-      done_none = zero_work (total_rank sc 1 (idles sc.flags)) (total_begun (idles sc.flags)) (no_rank sc 1 sc.flags)
 
 -- a new core, by what its parts were made of
 pub new_core : (sc : Scenario) (limited : IsLimited sc) (spaces : List Names) (frames : List Working) (a b : ℕ) (user : Kept) (entries : Entries) (table : List (Option Cell)) (made : Keyed (List ℕ)) (history : rows.Entries) (calls phases : ℕ)

@@ -7,7 +7,7 @@ use Rattle.vch_base.specs.declared.key.Key.{Key}
 use Rattle.vch_base.specs.declared.places.Live.{Live}
 use Rattle.vch_base.specs.Managers.{Kept, live_at, count}
 use Rattle.vch_base.specs.Values.{is_default}
-use Rattle.vch_entry.specs.Entries.{Entries, handle_at}
+use Rattle.vch_entry.specs.Entries.{Entries, handle_at, entry_at, made_of}
 use Rattle.vch_table.specs.declared.indices.KeyedIndex.{KeyedIndex}
 use Rattle.vch_value.specs.declared.flight.Claim as flight
 use Rattle.vch_value.specs.declared.flight.Receipt.{Receipt}
@@ -30,7 +30,7 @@ use Rattle.vch_state.specs.declared.tally.Tally.{Tally}
 use Rattle.vch_state.specs.Plain.{Plain, Part, KeyParts, part_of, with_frame, closed, number_at}
 use Rattle.vch_state.specs.Shape.{Shape, Pairwise, Optional, IsIndexOf, IsLet, IsClaim, IsFrame, IsTask, slots_of}
 use Rattle.vch_state.specs.Pictures.{picture_of, task_holds, cell_holds, frame_holds, forming_holds, let_holds, frame_claimed, same_key, claimed, sync_of}
-use Rattle.vch_state.specs.Bounds.{rank}
+use Rattle.vch_state.specs.Bounds.{rank, makes, open_of, flying_of, in_all}
 use Rattle.vch_state.specs.Stands.{StandsFor, KeyStands, IsLiving, SameTally}
 use Rattle.vch_state.specs.Moves.{with_values, with_frame_at, claiming, more_claims}
 use Rattle.vch_state.proofs.Stable.{task_stays, frame_stays}
@@ -38,8 +38,8 @@ use Rattle.vch_state.proofs.Held.{held_counted}
 use Rattle.vch_state.proofs.Expected.{expected_met}
 use Rattle.vch_state.proofs.Claims.{AreThose, claims_those}
 use Rattle.vch_state.proofs.Replaced.{pictured, picture_by, held_before, held_behind, receipts_before, receipts_behind, claims_before, claims_behind, picture_now, picture_then, shape_then, framed}
-use Rattle.vch_state.proofs.Closing.{closed_frames, holds_closed, receipts_closed, claimed_closed, rank_closed}
-use Rattle.vch_state.proofs.Spending.{spent_then, work_same}
+use Rattle.vch_state.proofs.Closing.{closed_frames, holds_closed, receipts_closed, claimed_closed, rank_closed, makes_closed, open_closed, flying_closed}
+use Rattle.vch_state.proofs.Spending.{spent_then, unanswered_then, begun_then, open_then, work_same, makes_same}
 use Rattle.vch_state.proofs.Keys.{of_with, same_key_refl, each_key, cells_same}
 use Rattle.vch_state.proofs.Taking.{claims_moved, nil_of, taken}
 use Rattle.vch_state.proofs.FrameParts.{frames_of}
@@ -236,13 +236,27 @@ module _ (sc : Scenario) (k : Key) (c : Plain) (m : Machine) (t : ℕ) (positive
     counts_after : picture.Stands (picture_of k then_parts then_machine) e2 (of_key k c.keyed).kept
     counts_after = subst (λ (q : Picture). picture.Stands q e2 (of_key k c.keyed).kept) (sym picture_after) (stands_alike _ _ e2 _ alike counts)
 
-    key_after : KeyStands k then_parts then_machine
-    key_after = record {
+    refers_same : (o : Option flight.Claim) → (leaving.more_claims (told_claim o) m.tally).refers ≡ m.tally.refers
+    refers_same None = refl
+    refers_same (Some x) = refl
+
+    few_after : (of_key k m.pools).used ≤ then_machine.tally.refers + length (picture_of k then_parts then_machine).receipts + 1
+    few_after =
+        let a : length (picture_of k then_parts then_machine).receipts ≡ length P.receipts = ap (λ (q : Picture). length q.receipts) picture_after in
+        let b : length (picture_of k c m).receipts ≡ length P.receipts = ap (λ (q : Picture). length q.receipts) is_now in
+        let r : then_machine.tally.refers ≡ m.tally.refers = refers_same o in
+        let f : (of_key k m.pools).used ≤ m.tally.refers + length (picture_of k c m).receipts + 1 = s.keyed.0.few in
+        omega (arith, a, b, r, f)
+
+    key_after : ((i : ℕ) → made_of (entry_at e2.slots i) ≡ made_of (entry_at (slots_of c k) i)) → KeyStands k then_parts then_machine
+    key_after counts_same = record {
       living = λ i. rw is_new (s.keyed.0.living i);
       free = rw is_new s.keyed.0.free;
       used = rw is_new s.keyed.0.used;
       row = rw is_new s.keyed.0.row;
       counts = rw is_new counts_after;
+      made = λ i. rw (is_new, refers_same o) (subst (λ n. n ≤ m.tally.refers) (sym (counts_same i)) (s.keyed.0.made i));
+      few = few_after;
     }
 
     tally_after : (o : Option flight.Claim) → SameTally (more_claims o c.tally) (leaving.more_claims (told_claim o) m.tally)
@@ -258,16 +272,31 @@ module _ (sc : Scenario) (k : Key) (c : Plain) (m : Machine) (t : ℕ) (positive
     asks_same None = refl
     asks_same (Some x) = refl
 
-    pub stands_after : Fits sc then_machine → StandsFor sc (k ∷ []) then_parts then_machine
-    stands_after fits = record {
-      keyed = (key_after, tt);
+    pub stands_after : ((i : ℕ) → made_of (entry_at e2.slots i) ≡ made_of (entry_at (slots_of c k) i)) → Fits sc then_machine → StandsFor sc (k ∷ []) then_parts then_machine
+    stands_after counts_same fits = record {
+      keyed = (key_after counts_same, tt);
       shape = shape_after;
       history = s.history;
       phase = s.phase;
       tally = tally_after o;
       asked = rw is_new (asks_same o ∙ s.asked);
-      room = rw is_new s.room;
-      spent = spent_then sc m then_machine t (frames.closed G2) positive inside_tasks refl
-          (rw (rank_closed (current sc m t) G2) (subst (λ u. ((leaving.more_claims (told_claim o) m.tally).claims + (leaving.more_claims (told_claim o) m.tally).refers) + rank (current sc m t) (Some G2) ≤ (m.tally.claims + m.tally.refers) + rank (current sc m t) u) (sym task) (less_work o))) s.spent;
+      room = rw (is_new, unanswered_then sc m then_machine t (frames.closed G2) positive inside_tasks refl opens) s.room;
+      slots = rw (open_then m then_machine t (frames.closed G2) positive inside_tasks refl opens, begun_then m then_machine t (frames.closed G2) positive inside_tasks refl) s.slots;
+      spent = spent_then sc m then_machine t (frames.closed G2) positive inside_tasks refl (record {
+        done = rw (rank_closed (current sc m t) G2) (subst (λ u. ((leaving.more_claims (told_claim o) m.tally).claims + (leaving.more_claims (told_claim o) m.tally).refers) + rank (current sc m t) (Some G2) ≤ (m.tally.claims + m.tally.refers) + rank (current sc m t) u) (sym task) (less_work o));
+        refers = refers_same o;
+        makes = makes_closed (current sc m t) G2 ∙ makes_same (current sc m t) G2 (leaving_machine w place keys (p ∷ rest) None) w refl refl ∙ sym (ap (makes (current sc m t)) task);
+        opens = opens;
+        flying = flying_closed G2 ∙ sym (ap flying_of task);
+        past = asks_past o;
+        phases = refl;
+      }) s.spent;
       fits = fits;
     }
+      where
+        opens : open_of (frames.closed G2) ≡ open_of (tasked m t).frame
+        opens = open_closed G2 ∙ sym (ap open_of task)
+
+        asks_past : (o : Option flight.Claim) → length m.past + m.tally.asks ≤ length m.past + (leaving.more_claims (told_claim o) m.tally).asks
+        asks_past None = omega arith
+        asks_past (Some x) = omega arith

@@ -10,7 +10,7 @@ use Rattle.vch_base.specs.Managers.{Kept, count}
 use Rattle.vch_entry.specs.declared.table.Entry.{Entry}
 use Rattle.vch_entry.specs.declared.table.LetGo.{LetGo}
 use Rattle.vch_entry.specs.declared.table.LetGo.TheVariants as let_go
-use Rattle.vch_entry.specs.Entries.{Entries, handle_at, handle_of, entry_at, refs_of, let_go_answer, less_refs, Writes, IsApart}
+use Rattle.vch_entry.specs.Entries.{Entries, handle_at, handle_of, entry_at, refs_of, made_of, let_go_answer, less_refs, Writes, IsApart}
 use Rattle.vch_value.specs.declared.flight.Claim as flight
 use Rattle.vch_value.specs.Picture as picture
 use Rattle.vch_value.specs.Picture.{Picture, entry_of, let_go_picture, takes_claim}
@@ -83,6 +83,17 @@ handles_stay old new index o there call i = by (entry_at old.slots index) refl t
     by (Some x) q t e = elim (cases_eq i index) [
       | inl same ↦ subst (λ j. handle_at new.slots j ≡ handle_at old.slots j) (sym same) (ap handle_of e.1.here ∙ sym (ap handle_of q))
       | inr n ↦ ap handle_of (e.1.others i n)
+    ]
+
+-- and so do the made counts
+made_stays : (old new : Entries) (index : ℕ) (o : Option flight.Claim) → IsSome (entry_at old.slots index) → LetsGo old index o new → (i : ℕ) → made_of (entry_at new.slots i) ≡ made_of (entry_at old.slots i)
+made_stays old new index o there call i = by (entry_at old.slots index) refl there call
+  where
+    by : (x : Option Entry) → entry_at old.slots index ≡ x → IsSome x → IfSome x (λ e. (o ≡ claim_of index (let_go_answer e)) × Writes old.slots new.slots index (Some (less_refs e)) × (new.spare ≡ old.spare)) → made_of (entry_at new.slots i) ≡ made_of (entry_at old.slots i)
+    by None q t e = let z : false ≡ true = t in absurd (cc)
+    by (Some x) q t e = elim (cases_eq i index) [
+      | inl same ↦ subst (λ j. made_of (entry_at new.slots j) ≡ made_of (entry_at old.slots j)) (sym same) (ap made_of e.1.here ∙ sym (ap made_of q))
+      | inr n ↦ ap made_of (e.1.others i n)
     ]
 
 claim_index : (old new : Entries) (index : ℕ) (o : Option flight.Claim) → IsSome (entry_at old.slots index) → LetsGo old index o new → IsOf index o
@@ -206,7 +217,7 @@ module _ (p : Parts) (t : ℕ) (f : Frame) (l : KeyIndex) (ls : List KeyIndex) (
       next_stands = stands_after p.scenario keys.User (plain_of p) m t range.0 range.1 f.forming f.at f.key l ls g.forming g.at_byte g.keys q.handle rest own_is twin_is key index s
           e2 o (handles_stay p.user_entries e2 l.index o there call) (claim_index p.user_entries e2 l.index o there call) told_row
           (stands seen_picture p.user q.handle first_part last_part index holders_are stands_now)
-          (event_keeps p.scenario want t m Next s.fits happens)
+          (made_stays p.user_entries e2 l.index o there call) (event_keeps p.scenario want t m Next s.fits happens)
 
       module _ (frames2 : List Working) (tally2 : Tally)
           (put : frames2 ≡ with_frame_of (with_frame_of p.frames t None) t (closed (record f { lets = ls; claim = claiming l.key o }))) (counted : tally2 ≡ more_claims o p.tally) where
@@ -241,7 +252,7 @@ module _ (p : Parts) (t : ℕ) (f : Frame) (l : KeyIndex) (ls : List KeyIndex) (
 
 -- claims, references and questions are few
 pub claims_few : (p : Parts) → Reached p → p.tally.claims < 2 ^ 63
-claims_few p r = from_reached p _ r (λ m limited s. few p.tally.claims m.tally.claims m.tally.refers s.tally.claims (done_bound p.scenario m limited s.spent s.fits))
+claims_few p r = from_reached p _ r (λ m limited s. few p.tally.claims m.tally.claims m.tally.refers s.tally.claims (done_bound p.scenario m limited s.spent))
   where
-    few : (a b c : ℕ) → a ≡ b → b + c ≤ 6710886400000 → a < 2 ^ 63
+    few : (a b c : ℕ) → a ≡ b → b + c ≤ 104857600000 → a < 2 ^ 63
     few a b c e l = omega arith

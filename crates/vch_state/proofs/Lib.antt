@@ -5,6 +5,7 @@ pub mod Expected
 pub mod Held
 pub mod Replaced
 pub mod Closing
+pub mod Sums
 pub mod Spending
 pub mod Keys
 pub mod Taking

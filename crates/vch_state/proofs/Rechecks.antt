@@ -8,7 +8,7 @@ use Rattle.std.proofs.lemmas.Grind.{common_steps}
 use Rattle.vch_base.specs.declared.key.Key.{Key}
 use Rattle.vch_base.specs.Managers.{Kept, live_at, count}
 use Rattle.vch_entry.specs.declared.table.Entry.{Entry}
-use Rattle.vch_entry.specs.Entries.{Entries, handle_at}
+use Rattle.vch_entry.specs.Entries.{Entries, handle_at, entry_at, made_of}
 use Rattle.vch_table.specs.declared.indices.KeyedIndex.{KeyedIndex}
 use Rattle.vch_value.specs.declared.flight.Claim as flight
 use Rattle.vch_value.specs.declared.flight.Asked.{Asked}
@@ -28,14 +28,14 @@ use Rattle.vch_state.specs.declared.frame.KeyIndex.{KeyIndex}
 use Rattle.vch_state.specs.Plain.{Plain, KeyParts, part_of, with_frame, closed, number_at}
 use Rattle.vch_state.specs.Shape.{Shape, Optional, IsIndexOf, IsClaim, IsFrame, IsTask, slots_of}
 use Rattle.vch_state.specs.Pictures.{picture_of, cell_holds, frame_claimed, claimed_of, claimed, sync_of, same_key}
-use Rattle.vch_state.specs.Bounds.{rank}
+use Rattle.vch_state.specs.Bounds.{rank, makes, open_of, flying_of, in_all}
 use Rattle.vch_state.specs.Stands.{StandsFor, KeyStands}
 use Rattle.vch_state.specs.Moves.{with_values, with_frame_at, claiming}
 use Rattle.vch_state.proofs.Held.{held_counted}
 use Rattle.vch_state.proofs.Expected.{expected_met}
 use Rattle.vch_state.proofs.Replaced.{picture_by, claims_before, claims_behind, shape_then, framed}
-use Rattle.vch_state.proofs.Closing.{closed_frames, holds_closed, receipts_closed, claimed_closed, rank_closed}
-use Rattle.vch_state.proofs.Spending.{spent_then, work_same}
+use Rattle.vch_state.proofs.Closing.{closed_frames, holds_closed, receipts_closed, claimed_closed, rank_closed, makes_closed, open_closed, flying_closed}
+use Rattle.vch_state.proofs.Spending.{spent_then, unanswered_then, begun_then, open_then, work_same, makes_same}
 use Rattle.vch_state.proofs.Keys.{of_with, same_key_refl}
 use Rattle.vch_state.proofs.LetsGo.{leaving_frame, leaving_machine, IsOf}
 use Rattle.vch_state.proofs.OneClaim as one
@@ -143,8 +143,18 @@ module _ (sc : Scenario) (k : Key) (c : Plain) (m : Machine) (t : ℕ) (positive
       less_work : rank (current sc m t) (Some G2) ≤ rank (current sc m t) (Some (G (Some y)))
       less_work = let e = work_same (current sc m t) G2 (G (Some y)) w refl refl in omega (arith, e)
 
-      pub stands_after : Fits sc then_machine → StandsFor sc (k ∷ []) then_parts then_machine
-      stands_after fits = record {
+      few_after : (of_key k m.pools).used ≤ m.tally.refers + length (picture_of k then_parts then_machine).receipts + 1
+      few_after =
+          let a : length (picture_of k then_parts then_machine).receipts ≡ length P.receipts = ap (λ (q : Picture). length q.receipts) picture_after in
+          let b : length (picture_of k c m).receipts ≡ length P.receipts = ap (λ (q : Picture). length q.receipts) is_now in
+          let f : (of_key k m.pools).used ≤ m.tally.refers + length (picture_of k c m).receipts + 1 = s.keyed.0.few in
+          omega (arith, a, b, f)
+
+      opens : open_of (frames.closed G2) ≡ open_of (tasked m t).frame
+      opens = open_closed G2 ∙ sym (ap open_of task)
+
+      pub stands_after : ((i : ℕ) → made_of (entry_at e2.slots i) ≤ m.tally.refers) → Fits sc then_machine → StandsFor sc (k ∷ []) then_parts then_machine
+      stands_after lower fits = record {
         keyed = (
           record {
             living = λ i. rw is_new (s.keyed.0.living i);
@@ -152,6 +162,8 @@ module _ (sc : Scenario) (k : Key) (c : Plain) (m : Machine) (t : ℕ) (positive
             used = rw is_new s.keyed.0.used;
             row = rw is_new s.keyed.0.row;
             counts = rw is_new (subst (λ (q : Picture). picture.Stands q e2 (of_key k c.keyed).kept) (sym picture_after) counts);
+            made = λ i. rw is_new (lower i);
+            few = few_after;
           },
           tt,
         );
@@ -160,10 +172,19 @@ module _ (sc : Scenario) (k : Key) (c : Plain) (m : Machine) (t : ℕ) (positive
         phase = s.phase;
         tally = s.tally;
         asked = rw is_new s.asked;
-        room = rw is_new s.room;
-        spent = spent_then sc m then_machine t (frames.closed G2) positive inside_tasks refl
-            (subst (λ a. (m.tally.claims + m.tally.refers) + a ≤ (m.tally.claims + m.tally.refers) + rank (current sc m t) (tasked m t).frame) (sym (rank_closed (current sc m t) G2))
-            (subst (λ u. (m.tally.claims + m.tally.refers) + rank (current sc m t) (Some G2) ≤ (m.tally.claims + m.tally.refers) + rank (current sc m t) u) (sym task) (more (m.tally.claims + m.tally.refers) _ _ less_work))) s.spent;
+        room = rw (is_new, unanswered_then sc m then_machine t (frames.closed G2) positive inside_tasks refl opens) s.room;
+        slots = rw (open_then m then_machine t (frames.closed G2) positive inside_tasks refl opens, begun_then m then_machine t (frames.closed G2) positive inside_tasks refl) s.slots;
+        spent = spent_then sc m then_machine t (frames.closed G2) positive inside_tasks refl (record {
+          done =
+              subst (λ a. (m.tally.claims + m.tally.refers) + a ≤ (m.tally.claims + m.tally.refers) + rank (current sc m t) (tasked m t).frame) (sym (rank_closed (current sc m t) G2))
+              (subst (λ u. (m.tally.claims + m.tally.refers) + rank (current sc m t) (Some G2) ≤ (m.tally.claims + m.tally.refers) + rank (current sc m t) u) (sym task) (more (m.tally.claims + m.tally.refers) _ _ less_work));
+          refers = refl;
+          makes = makes_closed (current sc m t) G2 ∙ makes_same (current sc m t) G2 (G (Some y)) w refl refl ∙ sym (ap (makes (current sc m t)) task);
+          opens = opens;
+          flying = flying_closed G2 ∙ sym (ap flying_of task);
+          past = omega arith;
+          phases = refl;
+        }) s.spent;
         fits = fits;
       }
         where

@@ -101,6 +101,36 @@ checked_cases e sync agreed A gone stays = by (e.made == sync) agreed (e.refs ==
     by false b true p q r = stays (rw (p, r) refl)
     by false b false p q r = stays (rw (p, r) refl)
 
+-- no made count rises
+checked_made : (e : Entry) (sync : ℕ) (agreed : Bool) → made_of (checked e sync agreed) ≤ e.made
+checked_made e sync agreed = by (e.made == sync) agreed (e.refs == 0) refl refl refl
+  where
+    by : (a b z : Bool) → (e.made == sync) ≡ a → agreed ≡ b → (e.refs == 0) ≡ z → made_of (checked e sync agreed) ≤ e.made
+    by true true z p q r = rw (p, q) (omega arith)
+    by true false z p q r = rw (p, q) (omega arith)
+    by false true true p q r = rw (p, q, r) (omega arith)
+    by false true false p q r = rw (p, q, r) (omega arith)
+    by false false true p q r = rw (p, q, r) (omega arith)
+    by false false false p q r = rw (p, q, r) (omega arith)
+
+made_falls : (old new : Entries) (asked : Asked) (o : Option flight.Claim) → IsSome (entry_at old.slots asked.index) → Rechecks old asked o new → (n : ℕ) → ((i : ℕ) → made_of (entry_at old.slots i) ≤ n) → (i : ℕ) → made_of (entry_at new.slots i) ≤ n
+made_falls old new asked o there call n low i = by (entry_at old.slots asked.index) refl there call
+  where
+    within : (e : Entry) → entry_at old.slots asked.index ≡ Some e → made_of (checked e asked.sync asked.agreed) ≤ n
+    within e q =
+        let a : made_of (checked e asked.sync asked.agreed) ≤ e.made = checked_made e asked.sync asked.agreed in
+        let b : made_of (entry_at old.slots asked.index) ≤ n = low asked.index in
+        let d : made_of (entry_at old.slots asked.index) ≡ e.made = ap made_of q in
+        omega (arith, a, b, d)
+
+    by : (x : Option Entry) → entry_at old.slots asked.index ≡ x → IsSome x
+        → IfSome x (λ e. (o ≡ claim_again asked.index (check_answer e asked.sync asked.agreed)) × Writes old.slots new.slots asked.index (checked e asked.sync asked.agreed) × (old.spare ≤ new.spare)) → made_of (entry_at new.slots i) ≤ n
+    by None q t e = let z : false ≡ true = t in absurd (cc)
+    by (Some x) q t e = elim (cases_eq i asked.index) [
+      | inl same ↦ subst (λ j. made_of (entry_at new.slots j) ≤ n) (sym same) (subst (λ u. made_of u ≤ n) (sym e.1.here) (within x q))
+      | inr m ↦ subst (λ u. made_of u ≤ n) (sym (e.1.others i m)) (low i)
+    ]
+
 -- a table that does not hold a handle stays where that handle goes
 cells_stay : (c d : Plain) (k : Key) (h : ℕ) → ((i : ℕ) → (handle_at (slots_of c k) i ≡ Some h → ⊥) → handle_at (slots_of d k) i ≡ handle_at (slots_of c k) i) → (table : List (Option Cell))
     → count h (flat_map (cell_holds c k) table) ≡ 0 → flat_map (cell_holds d k) table ≡ flat_map (cell_holds c k) table
@@ -321,7 +351,7 @@ module _ (p : Parts) (t : ℕ) (f : Frame) (key : Key) (x : Asked) (task : is_ta
         next_stands = rechecks.stands_after p.scenario keys.User (plain_of p) m t range.0 range.1 f.forming f.at f.key f.lets g.forming g.at_byte g.keys g.lets x h y.raced y.back own_is twin_is s e2 o
             (steady apart call).0 (steady apart call).1
             (stands P p.user (claimed x.sync Y) (claims_before keys.User (plain_of p) m t) (claims_behind keys.User (plain_of p) m t) split (z.index, refl, refl) stands_now)
-            (event_keeps p.scenario want t m Next s.fits happens)
+            (made_falls p.user_entries e2 x o (there_of p.user_entries.slots x.index h z.index) call m.tally.refers s.keyed.0.made) (event_keeps p.scenario want t m Next s.fits happens)
 
         module _ (frames2 : List Working) (put : frames2 ≡ with_frame_of (with_frame_of p.frames t None) t (closed (record f { claim = claiming key o }))) where
           abbrev new_parts : Parts

@@ -1,86 +1,120 @@
--- What was done and what can still be done, where a frame of one task is replaced.
-use Rattle.std.proofs.Common.{◌≡◌, ◌≢◌, ℕ, zero, suc, ◌+◌, ◌-◌, ◌*◌, ◌<◌, ◌≤◌, List, [], ◌∷◌, refl, arith, sym, ap, ◌∙◌, length, get_or, subst, Option, Some, None, inl, inr}
+-- What was done and what can still be done, where one task is replaced.
+use Rattle.std.proofs.Common.{◌≡◌, ◌≢◌, ℕ, zero, suc, ◌+◌, ◌-◌, ◌*◌, ◌<◌, ◌≤◌, List, [], ◌∷◌, refl, arith, sym, ap, ◌∙◌, length, drop, get_or, subst, Option, Some, None, inl, inr}
 use Rattle.std.proofs.Math.ListN.{set}
 use Rattle.std.proofs.lemmas.Bool.{cases_eq}
 use Rattle.std.proofs.lemmas.List.{get_or-set_same, get_or-set_other}
 use Rattle.vch_model.specs.declared.lists.Scenario.{Scenario}
 use Rattle.vch_model.specs.declared.call.Call.{Call}
 use Rattle.vch_model.specs.declared.call.Call.TheVariants as calls
-use Rattle.vch_machine.specs.State.{Handles, Frame, Machine, Tasked, tasked, idle}
+use Rattle.vch_model.specs.Lines.{phases_in, lines_of}
+use Rattle.vch_machine.specs.State.{Handles, Frame, Machine, Tasked, tasked, idle, is_empty}
 use Rattle.vch_machine.specs.Next.{current, nth_call}
 use Rattle.vch_legal.specs.Facts.{Fits}
-use Rattle.vch_state.specs.Bounds.{Limited, Spent, calls_of, rank, work_left, total_rank, total_begun}
+use Rattle.vch_state.specs.Bounds.{Limited, Spent, TaskSpent, calls_of, rank, makes, work_left, makes_left, open_of, flying_of, sum_tasks, in_all, rank_in, makes_in, begun_in, open_in, flying_in, references_in, unanswered_in}
 use Rattle.vch_state.proofs.Replaced.{framed}
+use Rattle.vch_state.proofs.Sums.{sum_with, sum_bounded}
 
-rank_set : (sc : Scenario) (t : ℕ) (xs : List Tasked) (i : ℕ) (y : Tasked) → i < length xs
-    → total_rank sc t (set xs i y) + rank (nth_call sc (t + i) (get_or xs i idle).begun) (get_or xs i idle).frame ≡ total_rank sc t xs + rank (nth_call sc (t + i) y.begun) y.frame
-rank_set sc t [] i y l = absurd (omega arith)
-rank_set sc t (x ∷ xs) zero y l =
-    let e : t + 0 ≡ t = omega arith in
-    rw e (omega arith)
-rank_set sc t (x ∷ xs) (suc i) y l =
-    let e : t + suc i ≡ (t + 1) + i = omega arith in
-    let r : total_rank sc (t + 1) (set xs i y) + rank (nth_call sc ((t + 1) + i) (get_or xs i idle).begun) (get_or xs i idle).frame ≡ total_rank sc (t + 1) xs + rank (nth_call sc ((t + 1) + i) y.begun) y.frame = rank_set sc (t + 1) xs i y (omega (arith, l)) in
-    rw e (omega (arith, r))
+-- what an event of one task owes: its own share of each bound
+pub record Paid (sc : Scenario) (t : ℕ) (m n : Machine) (x y : Tasked) : Type 0 where
+  pub done : (n.tally.claims + n.tally.refers) + rank_in sc t y + 100000 * x.begun ≤ (m.tally.claims + m.tally.refers) + rank_in sc t x + 100000 * y.begun
+  pub makes : 4 * n.tally.refers + makes_in sc t y + 5120 * x.begun ≤ 4 * m.tally.refers + makes_in sc t x + 5120 * y.begun
+  pub references : references_in t y + open_of y.frame + x.begun ≤ references_in t x + open_of x.frame + y.begun
+  pub past : length n.past + open_of y.frame + (m.tally.refers + flying_of x.frame + m.tally.asks + x.begun) ≤ length m.past + open_of x.frame + (n.tally.refers + flying_of y.frame + n.tally.asks + y.begun)
+  pub phases : phases_in n.past ≡ phases_in m.past
+  pub task : TaskSpent sc t x → TaskSpent sc t y
 
-begun_set : (xs : List Tasked) (i : ℕ) (g : Option Frame) → i < length xs → total_begun (set xs i (framed (get_or xs i idle) g)) ≡ total_begun xs
-begun_set [] i g l = refl
-begun_set (x ∷ xs) zero g l = refl
-begun_set (x ∷ xs) (suc i) g l = ap (λ n. x.begun + n) (begun_set xs i g (omega arith))
-
-begun_same : (xs : List Tasked) (i j : ℕ) (g : Option Frame) → i < length xs → (get_or (set xs i (framed (get_or xs i idle) g)) j idle).begun ≡ (get_or xs j idle).begun
-begun_same xs i j g l = elim (cases_eq j i) [
-  | inl e ↦ subst (λ v. (get_or (set xs i (framed (get_or xs i idle) g)) v idle).begun ≡ (get_or xs v idle).begun) (sym e) (ap (λ (x : Tasked). x.begun) (get_or-set_same xs i (framed (get_or xs i idle) g) idle l))
-  | inr n ↦ ap (λ (x : Tasked). x.begun) (get_or-set_other xs i j (framed (get_or xs i idle) g) idle n)
-]
-
-one_back : (t : ℕ) → 0 < t → 1 + (t - 1) ≡ t
+one_back : (t : ℕ) → 0 < t → (t - 1) + 1 ≡ t
 one_back t p = omega arith
 
-sums : (done done2 old new all all2 begun : ℕ) → all2 + old ≡ all + new → done2 + new ≤ done + old → done + all ≤ 100000 * begun → done2 + all2 ≤ 100000 * begun
-sums done done2 old new all all2 begun e g s = omega arith
+pub paid_then : (sc : Scenario) (m n : Machine) (t : ℕ) (y : Tasked) → 0 < t → t - 1 < length m.tasks → n.tasks ≡ set m.tasks (t - 1) y → Paid sc t m n (tasked m t) y → Spent sc m → Spent sc n
+paid_then sc m n t y positive inside tasks p s = record {
+  done =
+      let a : in_all (rank_in sc) n + rank_in sc t (tasked m t) ≡ in_all (rank_in sc) m + rank_in sc t y = sum_with (rank_in sc) m t n.tasks y positive inside tasks in
+      let b : in_all begun_in n + (tasked m t).begun ≡ in_all begun_in m + y.begun = sum_with begun_in m t n.tasks y positive inside tasks in
+      omega (arith, a, b, p.done, s.done);
+  makes =
+      let a : in_all (makes_in sc) n + makes_in sc t (tasked m t) ≡ in_all (makes_in sc) m + makes_in sc t y = sum_with (makes_in sc) m t n.tasks y positive inside tasks in
+      let b : in_all begun_in n + (tasked m t).begun ≡ in_all begun_in m + y.begun = sum_with begun_in m t n.tasks y positive inside tasks in
+      omega (arith, a, b, p.makes, s.makes);
+  references =
+      let a : in_all references_in n + references_in t (tasked m t) ≡ in_all references_in m + references_in t y = sum_with references_in m t n.tasks y positive inside tasks in
+      let b : in_all begun_in n + (tasked m t).begun ≡ in_all begun_in m + y.begun = sum_with begun_in m t n.tasks y positive inside tasks in
+      let d : in_all open_in n + open_of (tasked m t).frame ≡ in_all open_in m + open_of y.frame = sum_with open_in m t n.tasks y positive inside tasks in
+      omega (arith, a, b, d, p.references, s.references);
+  past =
+      let a : in_all flying_in n + flying_of (tasked m t).frame ≡ in_all flying_in m + flying_of y.frame = sum_with flying_in m t n.tasks y positive inside tasks in
+      let b : in_all begun_in n + (tasked m t).begun ≡ in_all begun_in m + y.begun = sum_with begun_in m t n.tasks y positive inside tasks in
+      let d : in_all open_in n + open_of (tasked m t).frame ≡ in_all open_in m + open_of y.frame = sum_with open_in m t n.tasks y positive inside tasks in
+      omega (arith, a, b, d, p.past, p.phases, s.past);
+  phases = let a : phases_in n.past ≡ phases_in m.past = p.phases in omega (arith, a, s.phases);
+  tasks = λ i. subst (λ ts. TaskSpent sc (i + 1) (get_or ts i idle)) (sym tasks) (elim (cases_eq i (t - 1)) [
+    | inl e ↦ subst (λ v. TaskSpent sc (v + 1) (get_or (set m.tasks (t - 1) y) v idle)) (sym e) here
+    | inr q ↦ subst (TaskSpent sc (i + 1)) (sym (get_or-set_other m.tasks (t - 1) i y idle q)) (s.tasks i)
+  ]);
+}
+  where
+    own : TaskSpent sc t (tasked m t)
+    own = subst (λ v. TaskSpent sc v (tasked m t)) (one_back t positive) (s.tasks (t - 1))
 
-abbrev replaced : Machine → ℕ → Option Frame → List Tasked
-replaced m t g = set m.tasks (t - 1) (framed (tasked m t) g)
+    here : TaskSpent sc ((t - 1) + 1) (get_or (set m.tasks (t - 1) y) (t - 1) idle)
+    here = subst (λ v. TaskSpent sc v (get_or (set m.tasks (t - 1) y) (t - 1) idle)) (sym (one_back t positive))
+        (subst (TaskSpent sc t) (sym (get_or-set_same m.tasks (t - 1) y idle inside)) (p.task own))
+
+-- an event that replaces the frame of one task, whose call goes on as it was, and takes no reference
+pub record Stays (sc : Scenario) (t : ℕ) (m n : Machine) (f g : Option Frame) : Type 0 where
+  pub done : (n.tally.claims + n.tally.refers) + rank (current sc m t) g ≤ (m.tally.claims + m.tally.refers) + rank (current sc m t) f
+  pub refers : n.tally.refers ≡ m.tally.refers
+  pub makes : makes (current sc m t) g ≡ makes (current sc m t) f
+  pub opens : open_of g ≡ open_of f
+  pub flying : flying_of g ≡ flying_of f
+  pub past : length n.past + m.tally.asks ≤ length m.past + n.tally.asks
+  pub phases : phases_in n.past ≡ phases_in m.past
 
 pub spent_then : (sc : Scenario) (m n : Machine) (t : ℕ) (g : Option Frame) → 0 < t → t - 1 < length m.tasks → n.tasks ≡ set m.tasks (t - 1) (framed (tasked m t) g)
-    → (n.tally.claims + n.tally.refers) + rank (current sc m t) g ≤ (m.tally.claims + m.tally.refers) + rank (current sc m t) (tasked m t).frame → Spent sc m → Spent sc n
-spent_then sc m n t g positive inside tasks less s = record {
-  done = subst (λ ts. (n.tally.claims + n.tally.refers) + total_rank sc 1 ts ≤ 100000 * total_begun ts) (sym tasks)
-      (subst (λ b. (n.tally.claims + n.tally.refers) + total_rank sc 1 (replaced m t g) ≤ 100000 * b) (sym (begun_set m.tasks (t - 1) g inside))
-      (sums (m.tally.claims + m.tally.refers) (n.tally.claims + n.tally.refers) (rank (current sc m t) (tasked m t).frame) (rank (current sc m t) g) (total_rank sc 1 m.tasks) (total_rank sc 1 (replaced m t g)) (total_begun m.tasks)
-      (subst (λ u. total_rank sc 1 (replaced m t g) + rank (nth_call sc u (tasked m t).begun) (tasked m t).frame ≡ total_rank sc 1 m.tasks + rank (nth_call sc u (tasked m t).begun) g) (one_back t positive) (rank_set sc 1 m.tasks (t - 1) (framed (tasked m t) g) inside))
-      less s.done));
-  begun = λ u. subst (λ ts. (get_or ts (u - 1) idle).begun ≤ calls_of sc) (sym tasks) (subst (λ b. b ≤ calls_of sc) (sym (begun_same m.tasks (t - 1) (u - 1) g inside)) (s.begun u));
-}
+    → Stays sc t m n (tasked m t).frame g → Spent sc m → Spent sc n
+spent_then sc m n t g positive inside tasks p = paid_then sc m n t (framed (tasked m t) g) positive inside tasks (record {
+  done = let a = p.done in omega (arith, a);
+  makes = let a = p.makes in let b = p.refers in omega (arith, a, b);
+  references = let a = p.opens in omega (arith, a);
+  past = let a = p.opens in let b = p.flying in let d = p.refers in let e = p.past in omega (arith, a, b, d, e);
+  phases = p.phases;
+  task = λ s. record { begun = s.begun; next = let a = p.opens in let b = s.next in omega (arith, a, b) };
+})
+
+-- the calls without an answer are the same then
+pub unanswered_then : (sc : Scenario) (m n : Machine) (t : ℕ) (g : Option Frame) → 0 < t → t - 1 < length m.tasks → n.tasks ≡ set m.tasks (t - 1) (framed (tasked m t) g)
+    → open_of g ≡ open_of (tasked m t).frame → in_all (unanswered_in sc) n ≡ in_all (unanswered_in sc) m
+unanswered_then sc m n t g positive inside tasks e =
+    let a : in_all (unanswered_in sc) n + ((length (lines_of sc t) - (tasked m t).begun) + open_of (tasked m t).frame) ≡ in_all (unanswered_in sc) m + ((length (lines_of sc t) - (tasked m t).begun) + open_of g) =
+        sum_with (unanswered_in sc) m t n.tasks (framed (tasked m t) g) positive inside tasks in
+    omega (arith, a, e)
+
+-- and so are the calls begun, and those that are open
+pub begun_then : (m n : Machine) (t : ℕ) (g : Option Frame) → 0 < t → t - 1 < length m.tasks → n.tasks ≡ set m.tasks (t - 1) (framed (tasked m t) g) → in_all begun_in n ≡ in_all begun_in m
+begun_then m n t g positive inside tasks =
+    let a : in_all begun_in n + (tasked m t).begun ≡ in_all begun_in m + (tasked m t).begun = sum_with begun_in m t n.tasks (framed (tasked m t) g) positive inside tasks in
+    omega (arith, a)
+
+pub open_then : (m n : Machine) (t : ℕ) (g : Option Frame) → 0 < t → t - 1 < length m.tasks → n.tasks ≡ set m.tasks (t - 1) (framed (tasked m t) g)
+    → open_of g ≡ open_of (tasked m t).frame → in_all open_in n ≡ in_all open_in m
+open_then m n t g positive inside tasks e =
+    let a : in_all open_in n + open_of (tasked m t).frame ≡ in_all open_in m + open_of g = sum_with open_in m t n.tasks (framed (tasked m t) g) positive inside tasks in
+    omega (arith, a, e)
 
 -- The bounds.
 
-sum_bound : (xs : List Tasked) (n : ℕ) → ((i : ℕ) → i < length xs → (get_or xs i idle).begun ≤ n) → total_begun xs ≤ length xs * n
-sum_bound [] n f = omega arith
-sum_bound (x ∷ xs) n f =
-    let a : x.begun ≤ n = f 0 (omega arith) in
-    let b : total_begun xs ≤ length xs * n = sum_bound xs n (λ i l. f (suc i) (omega arith)) in
-    let e : suc (length xs) * n ≡ n + length xs * n = grind arith in
-    rw e (omega arith)
-
-module _ (sc : Scenario) (m : Machine) (limited : Limited sc) (spent : Spent sc m) (fits : Fits sc m) where
-  begun_bound : total_begun m.tasks ≤ 64 * 1048576
-  begun_bound = by (length m.tasks) (total_begun m.tasks) (sum_bound m.tasks 1048576 each) few
-    where
-      each : (i : ℕ) → i < length m.tasks → (get_or m.tasks i idle).begun ≤ 1048576
-      each i l = let e : suc i - 1 ≡ i = omega arith in let b : (get_or m.tasks (suc i - 1) idle).begun ≤ calls_of sc = spent.begun (suc i) in
-          let d : (get_or m.tasks i idle).begun ≤ calls_of sc = subst (λ j. (get_or m.tasks j idle).begun ≤ calls_of sc) e b in omega (arith, d, limited.calls)
-
-      few : length m.tasks ≤ 64
-      few = omega (arith, fits.tasks, limited.tasks)
-
-      by : (l n : ℕ) → n ≤ l * 1048576 → l ≤ 64 → n ≤ 64 * 1048576
-      by l n p q = omega arith
+module _ (sc : Scenario) (m : Machine) (limited : Limited sc) (spent : Spent sc m) where
+  pub begun_bound : in_all begun_in m ≤ 1048576
+  begun_bound =
+      let a : in_all begun_in m ≤ calls_of sc = sum_bounded begun_in sc m.tasks (λ i l. let e : i + 1 ≡ 1 + i = omega arith in subst (λ u. (get_or m.tasks i idle).begun ≤ length (lines_of sc u)) e (spent.tasks i).begun) in
+      omega (arith, a, limited.calls)
 
   -- claims, references and questions are few
-  pub done_bound : m.tally.claims + m.tally.refers ≤ 6710886400000
-  done_bound = omega (arith, spent.done, begun_bound)
+  pub done_bound : m.tally.claims + m.tally.refers ≤ 104857600000
+  done_bound = let a = begun_bound in let b = spent.done in omega (arith, a, b)
+
+  pub refers_bound : m.tally.refers ≤ 1342177280
+  refers_bound = let a = begun_bound in let b = spent.makes in omega (arith, a, b)
 
 -- what is left of a call is told by the place and the keys
 pub work_same : (call : Option Call) (f g : Frame) (v : Option Handles) → f.at_byte ≡ g.at_byte → f.keys ≡ g.keys → work_left call f v ≡ work_left call g v
@@ -88,3 +122,9 @@ work_same call f g None a b = refl
 work_same (Some (calls.Create bytes)) f g (Some v) a b = rw (a, b) refl
 work_same (Some call) f g (Some v) a b = rw b refl
 work_same None f g (Some v) a b = rw b refl
+
+pub makes_same : (call : Option Call) (f g : Frame) (v : Option Handles) → f.at_byte ≡ g.at_byte → f.keys ≡ g.keys → makes_left call f v ≡ makes_left call g v
+makes_same call f g None a b = refl
+makes_same (Some (calls.Create bytes)) f g (Some v) a b = rw (a, b) refl
+makes_same (Some call) f g (Some v) a b = rw b refl
+makes_same None f g (Some v) a b = rw b refl

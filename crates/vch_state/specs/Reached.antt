@@ -58,7 +58,12 @@ IsEnd sc c = (moves : List Move) × (m : Machine) × (run_from_start sc moves �
 abbrev pub Reached : Parts → Type 0
 Reached p = IsEnd p.scenario (plain_of p)
 
--- one event of a task, of this kind, over plain data
+-- one event of a task, of this kind, over plain data: with memory wanted, or without
+unfoldable pub IsEventBy : Scenario → Bool → Kind → ℕ → Plain → Plain → Type 0
+IsEventBy sc want kind t old new =
+    (m : Machine) → IsState sc old m → (n : Machine) × (event sc want m t ≡ Some n) × (next_kind sc m t ≡ Some kind) × IsState sc new n
+
+-- the same where memory makes no difference
 unfoldable pub IsEvent : Scenario → Kind → ℕ → Plain → Plain → Type 0
 IsEvent sc kind t old new =
     (want : Bool) (m : Machine) → IsState sc old m → (n : Machine) × (event sc want m t ≡ Some n) × (next_kind sc m t ≡ Some kind) × IsState sc new n
@@ -68,6 +73,16 @@ IsEvent sc kind t old new =
 pub record Follows (kind : Kind) (t : ℕ) (old new : Parts) : Type 0 where
   pub scenario : new.scenario ≡ old.scenario
   pub event : IsEvent old.scenario kind t (plain_of old) (plain_of new)
+
+-- the same of an event that may want memory, which is its one free choice
+pub record MayFollow (kind : Kind) (t : ℕ) (old new : Parts) : Type 0 where
+  pub scenario : new.scenario ≡ old.scenario
+  pub want : Bool
+  pub event : IsEventBy old.scenario want kind t (plain_of old) (plain_of new)
+
+-- the kind of a task's next event, or none, in every state that the parts stand for
+unfoldable pub IsNext : Parts → ℕ → Option Kind → Type 0
+IsNext p t kind = (m : Machine) → Stands p m → next_kind p.scenario m t ≡ kind
 
 -- the kind of the next event of a frame where that is one of a value
 abbrev pub lets_kind : List KeyIndex → Option Kind
