@@ -22,6 +22,7 @@ use Rattle.vch_state.specs.declared.frame.Frame.{Frame}
 use Rattle.vch_state.specs.declared.frame.Claiming.{Claiming}
 use Rattle.vch_state.specs.declared.frame.KeyIndex.{KeyIndex}
 use Rattle.vch_state.specs.declared.frame.KeyReceipt.{KeyReceipt}
+use Rattle.vch_state.specs.UserOnly.{AsksUserFrom}
 use Rattle.vch_state.specs.Plain.{Plain, Part, SlotName, SlotMessage, part_of}
 
 -- Two lists agree place by place; two that may be none agree.
@@ -114,6 +115,7 @@ pub record IsFrame (c : Plain) (call : Option Call) (f : Frame) (g : machine.Fra
   pub receipt : Optional IsReceipt f.receipt g.receipt
   pub lets : Pairwise (IsLet c) f.lets g.lets
   pub claim : IsClaim c f.claim g.claim
+  pub asks : AsksUserFrom call f.at
 
 pub record IsTask (c : Plain) (call : Option Call) (x : Part) (y : Tasked) : Type 0 where
   pub names : Pairwise (IsName c) x.names y.names
