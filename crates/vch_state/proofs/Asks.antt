@@ -153,7 +153,7 @@ module _ (sc : Scenario) (k : Key) (c : Plain) (m : Machine) (t : ℕ) (positive
   new_frame =
       let z = one.old_frame sc k c m t positive inside v at key ls w place keys rest (Claiming.Claimed k x) y own task refl s in
       let u = frame_stays c then_parts stable refl (current sc m t) _ _ z in
-      record { forming = u.forming; at_byte = u.at_byte; keys_ = u.keys_; receipt = u.receipt; lets = u.lets; claim = (refl, subst (λ i. IsIndexOf then_parts k i h) (sym same_index) (stable k x.index h index), ap Some (sym agreed)); asks = u.asks }
+      record { forming = u.forming; at_byte = u.at_byte; keys_ = u.keys_; receipt = u.receipt; lets = u.lets; claim = (refl, subst (λ i. IsIndexOf then_parts k i h) (sym same_index) (stable k x.index h index), ap Some (sym agreed)); forms = u.forms; takes = u.takes }
 
   shape_after : Shape sc then_parts then_machine
   shape_after = shape_then sc c m t positive inside s.shape then_parts then_machine (Some F2) (Some G2) refl tasks_are refl

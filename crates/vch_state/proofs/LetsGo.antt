@@ -110,7 +110,7 @@ module _ (sc : Scenario) (k : Key) (c : Plain) (m : Machine) (t : ℕ) (positive
   left_frame : (d : Plain) → ((q : Key) (i j : ℕ) → IsIndexOf c q i j → IsIndexOf d q i j) → d.table ≡ c.table → (x : Claiming) (y : Option machine.Claim) → IsClaim d x y → IsFrame d (current sc m t) (F1 x) (G1 y)
   left_frame d stable table x y related =
       let z = old_frame d stable table in
-      record { forming = z.forming; at_byte = z.at_byte; keys_ = z.keys_; receipt = z.receipt; lets = z.lets.1; claim = related; asks = z.asks }
+      record { forming = z.forming; at_byte = z.at_byte; keys_ = z.keys_; receipt = z.receipt; lets = z.lets.1; claim = related; forms = z.forms; takes = z.takes }
 
   others : (d : Plain) → ((q : Key) (i j : ℕ) → IsIndexOf c q i j → IsIndexOf d q i j) → d.table ≡ c.table → (u : ℕ) → u - 1 ≢ t - 1 → 0 < u → u - 1 < length c.tasks → IsTask d (current sc m u) (part_of c u) (tasked m u)
   others d stable table u n q i = task_stays c d stable table (current sc m u) (part_of c u) (tasked m u) (s.shape.tasks u q i)

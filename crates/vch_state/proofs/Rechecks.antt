@@ -118,7 +118,7 @@ module _ (sc : Scenario) (k : Key) (c : Plain) (m : Machine) (t : ℕ) (positive
       claim_related (Some z) i = (refl, i z refl, refl)
 
       new_frame : IsFrame then_parts (current sc m t) F2 G2
-      new_frame = record { forming = steady.frame.forming; at_byte = steady.frame.at_byte; keys_ = steady.frame.keys_; receipt = steady.frame.receipt; lets = steady.frame.lets; claim = claim_related o same_index; asks = steady.frame.asks }
+      new_frame = record { forming = steady.frame.forming; at_byte = steady.frame.at_byte; keys_ = steady.frame.keys_; receipt = steady.frame.receipt; lets = steady.frame.lets; claim = claim_related o same_index; forms = steady.frame.forms; takes = steady.frame.takes }
 
       shape_after : Shape sc then_parts then_machine
       shape_after = shape_then sc c m t positive inside s.shape then_parts then_machine (closed F2) (frames.closed G2) refl refl refl steady.others

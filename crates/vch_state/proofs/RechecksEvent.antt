@@ -231,7 +231,7 @@ module _ (p : Parts) (t : ℕ) (f : Frame) (key : Key) (x : Asked) (task : is_ta
         own = (let w : IsTask D (current p.scenario m t) (part_of (plain_of p) t) (tasked m t) = task_stays (plain_of p) D stable refl (current p.scenario m t) (part_of (plain_of p) t) (tasked m t) (s.shape.tasks t range.0 range.1) in
             record { names = w.names; next = w.next; queue = w.queue; begun = w.begun; frame = tt });
         frame = (let w = frame_stays (plain_of p) D stable refl (current p.scenario m t) _ _ old_frame in
-            record { forming = w.forming; at_byte = w.at_byte; keys_ = w.keys_; receipt = w.receipt; lets = w.lets; claim = tt; asks = w.asks });
+            record { forming = w.forming; at_byte = w.at_byte; keys_ = w.keys_; receipt = w.receipt; lets = w.lets; claim = tt; forms = w.forms; takes = w.takes });
         cells = cells_same (plain_of p) D keys.User (λ i. all_handles i keys.User) p.vouchers;
       }
         where
@@ -296,7 +296,7 @@ module _ (p : Parts) (t : ℕ) (f : Frame) (key : Key) (x : Asked) (task : is_ta
           own = task_unused (plain_of p) D gone stable refl (current p.scenario m t) (with_frame (part_of (plain_of p) t) None) (framed (tasked m t) None) own_free.0 refl
               (let w = s.shape.tasks t range.0 range.1 in record { names = w.names; next = w.next; queue = w.queue; begun = w.begun; frame = tt });
           frame = frame_unused (plain_of p) D gone stable refl (current p.scenario m t) _ _ own_free.1 refl
-              (record { forming = old_frame.forming; at_byte = old_frame.at_byte; keys_ = old_frame.keys_; receipt = old_frame.receipt; lets = old_frame.lets; claim = tt; asks = old_frame.asks });
+              (record { forming = old_frame.forming; at_byte = old_frame.at_byte; keys_ = old_frame.keys_; receipt = old_frame.receipt; lets = old_frame.lets; claim = tt; forms = old_frame.forms; takes = old_frame.takes });
           cells = cells_stay (plain_of p) D keys.User h (λ i n. writes i (λ q. n (ap (handle_at p.user_entries.slots) q ∙ z.index))) p.vouchers no_cells;
         }
 

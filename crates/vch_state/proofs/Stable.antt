@@ -56,7 +56,8 @@ module _ (c d : Plain) (stable : (k : Key) (i h : ℕ) → IsIndexOf c k i h →
     forming = optional (IsMap c) (IsMap d) map_stays f.forming g.forming p.forming;
     at_byte = p.at_byte;
     keys_ = p.keys_;
-    asks = p.asks;
+    forms = p.forms;
+    takes = p.takes;
     receipt = p.receipt;
     lets = pairwise (IsLet c) (IsLet d) let_stays f.lets g.lets p.lets;
     claim = claim_stays f.claim g.claim p.claim;

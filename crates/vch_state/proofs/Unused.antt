@@ -108,7 +108,8 @@ module _ (c d : Plain) (gone : Place) (stable : (q : Key) (i j : ℕ) → same_p
         forming = forming_stays f.forming g.forming e.0 p.forming;
         at_byte = p.at_byte;
         keys_ = p.keys_;
-        asks = p.asks;
+        forms = p.forms;
+        takes = p.takes;
         receipt = p.receipt;
         lets = lets_stay f.lets g.lets e.1 p.lets;
         claim = claim_stays f.claim g.claim u p.claim;

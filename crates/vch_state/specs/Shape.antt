@@ -22,7 +22,7 @@ use Rattle.vch_state.specs.declared.frame.Frame.{Frame}
 use Rattle.vch_state.specs.declared.frame.Claiming.{Claiming}
 use Rattle.vch_state.specs.declared.frame.KeyIndex.{KeyIndex}
 use Rattle.vch_state.specs.declared.frame.KeyReceipt.{KeyReceipt}
-use Rattle.vch_state.specs.UserOnly.{AsksUserFrom}
+use Rattle.vch_state.specs.UserOnly.{FormsUser, TakesUser}
 use Rattle.vch_state.specs.Plain.{Plain, Part, SlotName, SlotMessage, part_of}
 
 -- Two lists agree place by place; two that may be none agree.
@@ -115,7 +115,8 @@ pub record IsFrame (c : Plain) (call : Option Call) (f : Frame) (g : machine.Fra
   pub receipt : Optional IsReceipt f.receipt g.receipt
   pub lets : Pairwise (IsLet c) f.lets g.lets
   pub claim : IsClaim c f.claim g.claim
-  pub asks : AsksUserFrom call f.at
+  pub forms : FormsUser call f.at f.forming
+  pub takes : TakesUser call f.at f.receipt
 
 pub record IsTask (c : Plain) (call : Option Call) (x : Part) (y : Tasked) : Type 0 where
   pub names : Pairwise (IsName c) x.names y.names

@@ -1,12 +1,15 @@
 -- What a core can run today: creates and drops of user data.
 use Rattle.std.specs.Prelude.{◌≡◌, ℕ, ◌==◌, ◌&&◌, ◌||◌, nat_lt, Bool, false, List, [], ◌∷◌, drop, Option, Some, None}
 use Rattle.std.specs.List.{AllByRecursion}
-use Rattle.vch_recipe.specs.Recipes.{One, first_of}
+use Rattle.vch_base.specs.declared.key.Key.TheVariants as keys
+use Rattle.vch_recipe.specs.Recipes.{First, One, first_of}
 use Rattle.vch_recipe.specs.declared.recipe.Recipe.{Recipe}
 use Rattle.vch_model.specs.declared.call.Call.{Call}
 use Rattle.vch_model.specs.declared.call.Call.TheVariants as calls
 use Rattle.vch_model.specs.declared.call.Line.{Line}
 use Rattle.vch_model.specs.declared.lists.Scenario.{Scenario}
+use Rattle.vch_table.specs.declared.indices.KeyedIndex.{KeyedIndex}
+use Rattle.vch_state.specs.declared.frame.KeyReceipt.{KeyReceipt}
 
 -- a record of a manager's command, of a key whose manager is not user data's, or of all keys
 abbrev pub asks_other : Recipe → Bool
@@ -38,7 +41,19 @@ IsUserCall calls.Live = ⊥
 abbrev pub IsUserOnly : Scenario → Type 0
 IsUserOnly sc = AllByRecursion (λ lines. AllByRecursion (λ (l : Line). IsUserCall l.call) lines) sc.phases
 
--- the same of the records of a create from a place on
-abbrev pub AsksUserFrom : Option Call → ℕ → Type 0
-AsksUserFrom (Some (calls.Create bytes)) at = AsksUserOnly (drop at bytes)
-AsksUserFrom call at = Unit {0}
+-- Of a frame: only a create forms a voucher, and its records from a place on ask user data's manager only. A receipt is for
+-- the record at the place, which is one of user data.
+
+abbrev pub FormsUser : Option Call → ℕ → Option (List KeyedIndex) → Type 0
+FormsUser call at None = Unit {0}
+FormsUser (Some (calls.Create bytes)) at (Some v) = AsksUserOnly (drop at bytes)
+FormsUser call at (Some v) = ⊥
+
+abbrev pub IsUserRecord : First → Type 0
+IsUserRecord (One r rest) = r.key ≡ 7
+IsUserRecord first = ⊥
+
+abbrev pub TakesUser : Option Call → ℕ → Option KeyReceipt → Type 0
+TakesUser call at None = Unit {0}
+TakesUser (Some (calls.Create bytes)) at (Some r) = (r.key ≡ keys.User) × IsUserRecord (first_of (drop at bytes))
+TakesUser call at (Some r) = ⊥
