@@ -1,3 +1,4 @@
 pub mod Others
 pub mod Rows
 mod FullList
+pub mod Histories

@@ -9,4 +9,6 @@ pub mod Placing
 pub mod Leaving
 pub mod Events
 pub mod Schedules
+pub mod Examples
 pub mod Worked
+pub mod Histories
