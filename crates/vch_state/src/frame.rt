@@ -101,7 +101,7 @@ impl Lets {
 #[derive(Drop)]
 pub struct Frame {
     pub forming: Option<Indices>,
-    pub at: u32,
+    pub at: usize,
     pub key: u32,
     pub receipt: Option<KeyReceipt>,
     pub lets: Lets,
