@@ -62,7 +62,10 @@ counted_left sc t m call c =
     back n = omega arith
 
 call_some : (call : Call) → 10 ≤ call_left call
-call_some (calls.Create bytes) = omega arith
+call_some (calls.Create bytes) = at_least (if nat_lt 5120 (length bytes) then 0 else 20 * (4 + 4 * length bytes))
+  where
+    at_least : (n : ℕ) → 10 ≤ 10 + n
+    at_least n = omega arith
 call_some (calls.GiveUp name) = omega arith
 call_some (calls.Extract name key) = omega arith
 call_some (calls.Recipes name) = omega arith
@@ -143,6 +146,13 @@ lower_if : (sc : Scenario) (m a b : Machine) (c : Bool) → Lower sc m a → Low
 lower_if sc m a b true x y = x
 lower_if sc m a b false x y = y
 
+-- a create that begins a frame has no more than 5,120 bytes
+create_if : (sc : Scenario) (m a b : Machine) (none long : Bool) → Lower sc m a → (long ≡ false → Lower sc m b)
+    → Lower sc m (if none || long then a else b)
+create_if sc m a b true long x y = x
+create_if sc m a b false true x y = x
+create_if sc m a b false false x y = y refl
+
 left_if : (sc : Scenario) (m a b : Machine) (c : Bool) → Left sc a ≡ Left sc m → Left sc b ≡ Left sc m
     → Left sc (if c then a else b) ≡ Left sc m
 left_if sc m a b true x y = x
@@ -187,9 +197,9 @@ recv_begin sc t m reply (Some v) c =
 begin_lower : (sc : Scenario) (want : Bool) (t : ℕ) (m : Machine) (call : Call) (reply : Reply) → Begins sc t m call
     → Lower sc m (begin_call sc want (counted m t) t call reply)
 begin_lower sc want t m (calls.Create bytes) reply c =
-    lower_if sc m _ _ ((length bytes == 0) || nat_lt 5120 (length bytes))
+    create_if sc m _ _ (length bytes == 0) (nat_lt 5120 (length bytes))
     (answered_lower sc t m (counted m t) (calls.Create bytes) reply c refl)
-    (fresh_lower sc t m (calls.Create bytes) no_handles [] c (omega arith))
+    (λ short. fresh_lower sc t m (calls.Create bytes) no_handles [] c (rw short (omega arith)))
 begin_lower sc want t m (calls.GiveUp name) reply c = drop_lower sc t m name reply c
 begin_lower sc want t m (calls.Extract name key) reply c = answered_lower sc t m (counted m t)
     (calls.Extract name key) (or_want want reply) c refl

@@ -29,6 +29,7 @@ pub mod LeftFrames
 pub mod LeftMakes
 pub mod LeftTasks
 pub mod Lifts
+pub mod LineSums
 pub mod LiveKeeps
 pub mod MakeGoes
 pub mod MakeSpots

@@ -43,7 +43,7 @@ not_below : (a b : ℕ) → b ≤ a → nat_lt a b ≡ false
 not_below a b h = grind arith
 
 -- a task whose line waits has a next event: a Begin, or one of its frame
-waiting_next : (sc : Scenario) (m : Machine) (t : ℕ) → Stands sc m → is_task sc t ≡ true
+pub waiting_next : (sc : Scenario) (m : Machine) (t : ℕ) → Stands sc m → is_task sc t ≡ true
     → first_waiting sc m [] (now sc m) ≡ Some t → is_some (next_kind sc m t) ≡ true
 waiting_next sc m t s task e = by_frame (tasked m t).frame refl
   where
@@ -62,7 +62,7 @@ waiting_next sc m t s task e = by_frame (tasked m t).frame refl
     by_frame (Some f) g = opened_next sc m t (s.tasks t task) (ap is_some g)
 
 -- where no frame is and no line waits, no task has a next event
-resting : (sc : Scenario) (m : Machine) (t : ℕ) → Stands sc m → is_task sc t ≡ true → is_some (tasked m t).frame
+pub resting : (sc : Scenario) (m : Machine) (t : ℕ) → Stands sc m → is_task sc t ≡ true → is_some (tasked m t).frame
     ≡ false → first_waiting sc m [] (now sc m) ≡ None → is_some (next_kind sc m t) ≡ false
 resting sc m t s task none e = by_frame (tasked m t).frame none
   where
@@ -94,13 +94,13 @@ resting sc m t s task none e = by_frame (tasked m t).frame none
         none_begins false e = refl
     by_frame (Some f) g = cc
 
-none_are_ready : (sc : Scenario) (m : Machine) (ts : List ℕ)
+pub none_are_ready : (sc : Scenario) (m : Machine) (ts : List ℕ)
     → AllByRecursion (λ t. is_some (next_kind sc m t) ≡ false) ts → is_empty (ready sc m ts) ≡ true
 none_are_ready sc m [] h = refl
 none_are_ready sc m (t ∷ ts) h = rw h.0 (none_are_ready sc m ts h.1)
 
 -- a phase can end
-phase_some : (sc : Scenario) (m : Machine) → is_empty (ready sc m (numbers (length sc.flags))) ≡ true → has_ended sc m
+pub phase_some : (sc : Scenario) (m : Machine) → is_empty (ready sc m (numbers (length sc.flags))) ≡ true → has_ended sc m
     ≡ false → is_some (phase_event sc m) ≡ true
 unfolding phase_event
 phase_some sc m e over = rw (e, more (nat_lt (phases_in m.past) (length sc.phases)) over) refl

@@ -1,5 +1,5 @@
 -- What is left to do in a run at most. Each move lowers it, so a run ends.
-use Rattle.std.specs.Prelude.{ℕ, ◌+◌, ◌-◌, ◌*◌, if◌then◌else◌, List, [], ◌∷◌, length, drop, Option, Some, None, is_some}
+use Rattle.std.specs.Prelude.{ℕ, ◌+◌, ◌-◌, ◌*◌, nat_lt, if◌then◌else◌, List, [], ◌∷◌, length, drop, Option, Some, None, is_some}
 use Rattle.vch_base.specs.declared.key.Key.{Key}
 use Rattle.vch_model.specs.declared.call.Call.{Call}
 use Rattle.vch_model.specs.declared.call.Call.TheVariants as calls
@@ -51,9 +51,9 @@ abbrev pub frame_left : Option Call → Option Frame → ℕ
 frame_left call None = 0
 frame_left call (Some f) = frame_base call f + claim_left f.claim
 
--- a call that was not begun
+-- a call that was not begun; a create of more than 5,120 bytes is refused at once
 abbrev pub call_left : Call → ℕ
-call_left (calls.Create bytes) = 10 + 20 * (4 + 4 * length bytes)
+call_left (calls.Create bytes) = 10 + (if nat_lt 5120 (length bytes) then 0 else 20 * (4 + 4 * length bytes))
 call_left call = 10 + 20 * 3
 
 abbrev pub lines_left : List (ℕ × Line) → ℕ

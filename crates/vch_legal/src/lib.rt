@@ -7,7 +7,7 @@
 //! while it is asked to be released. The facts of one handle (`spot_fits`) say what such a moment can look like.
 #![tactic(auto)]
 
-ghost use Rattle.std.specs.Prelude.{◌≡◌, ◌≤◌, ◌<◌, ◌+◌, ℕ, Bool, true, List, length, reverse, Option, Some, is_some};
+ghost use Rattle.std.specs.Prelude.{◌≡◌, ◌≤◌, ◌<◌, ◌+◌, ◌*◌, ℕ, Bool, true, List, length, reverse, Option, Some, is_some};
 ghost use Rattle.vch_model.specs.declared.entry.Entry.{Entry};
 ghost use Rattle.vch_model.specs.Totals.{held, out, ledger};
 ghost use Rattle.vch_legal.specs.Conserved.{each_task, accepted, dues};
@@ -16,7 +16,7 @@ ghost use Rattle.vch_machine.specs.State.{Machine, start};
 ghost use Rattle.vch_machine.specs.Events.{event, phase_event};
 ghost use Rattle.vch_machine.specs.Schedules.{Move, happens, run_from_start, has_ended, in_turn, by_seed};
 ghost use Rattle.vch_model.specs.Legal.{Legal, LegalPast, Whole};
-ghost use Rattle.vch_model.specs.Scenarios.{IsLimited};
+ghost use Rattle.vch_model.specs.Scenarios.{IsLimited, line_count};
 ghost use Rattle.vch_legal.specs.Facts.{Fits};
 ghost use Rattle.vch_legal.specs.Left.{left};
 
@@ -115,6 +115,12 @@ pub fn every_move_lowers_what_is_left()
 pub fn every_run_is_bounded()
     ensures { (sc : Scenario) (moves : List Move) (n : Machine)
         → run_from_start sc moves ≡ Some n → length moves + left sc n ≤ left sc (start sc) }
+{}
+
+/// A law: what is left at the start is bounded by the number of calls and of phases.
+#[tactic(auto, using(crate::proofs::LineSums::start_few))]
+pub fn start_is_bounded()
+    ensures { (sc : Scenario) → left sc (start sc) ≤ 409690 * line_count sc.phases + length sc.phases }
 {}
 
 /// A law: with a bound above what is left at the start, the schedule in turn ends with the last phase.
