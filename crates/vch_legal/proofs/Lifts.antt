@@ -14,7 +14,8 @@ use Rattle.vch_model.specs.Lines.{calls_in, phases_in, lines_until}
 use Rattle.vch_machine.specs.State.{Handles, of_key, with_key, Place, same_place, Living, Named, Message, Claim, Frame, Tasked, Machine, tasked, seen, valued, member_of, is_handle, has_place, option_has, frame_holds, task_holds, is_held, is_expected, is_place, frame_expects}
 use Rattle.vch_machine.specs.Making.{on_claim, on_frame}
 use Rattle.vch_machine.specs.Next.{nth_call}
-use Rattle.vch_machine.proofs.Others.{Leaves, still_claim}
+use Rattle.vch_machine.proofs.Others.{Leaves}
+use Rattle.vch_machine.proofs.Walks.{still_claim}
 use Rattle.vch_legal.specs.Facts.{bit}
 use Rattle.vch_legal.specs.Tie.{Forms, FormsCreate, FormsSend, FrameForms, IsForming, is_answering, is_open, IsOpen, TaskStands, map_with, place_with, keys_with}
 use Rattle.vch_legal.proofs.SeenSame.{AgreeBut, voucher_same, left_false, right_false}

@@ -15,7 +15,8 @@ use Rattle.vch_machine.specs.Leaving.{claim_if, do_let_go, do_recheck, released,
 use Rattle.vch_machine.specs.Making.{on_claim, on_frame, on_task, on_claims, race_claim, back_claim, given_receipt, minted, made_at, moved, do_refer}
 use Rattle.vch_machine.specs.Naming.{item}
 use Rattle.vch_machine.specs.Next.{nth_call}
-use Rattle.vch_machine.proofs.Others.{Leaves, MayLeave, event_leaves, still_claim}
+use Rattle.vch_machine.proofs.Others.{Leaves, leaves_of}
+use Rattle.vch_machine.proofs.Walks.{still_claim}
 use Rattle.vch_legal.specs.Facts.{Fits, FrameFits, OptionFits, SendsToTasks}
 use Rattle.vch_legal.proofs.OwnTask.{SentTo, set_keeps, own_frame, sent_begun, plain_fits, closed_fits, item_fits}
 use Rattle.vch_legal.proofs.ReferSpots.{moved_same}
@@ -274,7 +275,7 @@ pub event_tasks : (sc : Scenario) (want : Bool) (t : ℕ) (m n : Machine) → Fi
     → TasksFit sc n
 event_tasks sc want t m n h e =
     let own : OwnAfter sc t m n = subst (May (OwnAfter sc t m)) e (event_case sc want t m (OwnAfter sc t m) h cases) in
-    tasks_of sc t m n h own.0 own.1 (λ u apart. subst (MayLeave u m) e (event_leaves u t sc want m apart))
+    tasks_of sc t m n h own.0 own.1 (λ u apart. leaves_of sc want t u m n apart e)
   where
     cases : is_task sc t ≡ true → Cases sc t m (OwnAfter sc t m)
     cases task = let own : Cases sc t m (λ n. Own sc t m n) = own_cases sc t m h task in record {

@@ -1,3 +1,4 @@
+pub mod Walks
 pub mod Others
 pub mod Rows
 mod FullList

@@ -1,0 +1,73 @@
+-- How the next move of a schedule is found and made.
+use Rattle.std.specs.Prelude.{◌≡◌, ◌<◌, ◌≤◌, ◌+◌, ◌-◌, ℕ, ◌==◌, true, Bool, IsTrue, List, [], ◌∷◌, ◌++◌, length, slice_index_or, Option, Some, None, is_some}
+use Rattle.std.specs.List.{count_by}
+use Rattle.vch_model.specs.declared.call.Line.{Line}
+use Rattle.vch_model.specs.declared.lists.Scenario.{Scenario}
+use Rattle.vch_model.specs.Lines.{is_task, lines_until}
+use Rattle.vch_machine.specs.State.{Machine}
+use Rattle.vch_machine.specs.Events.{phase_event, numbers, ready}
+use Rattle.vch_machine.specs.Schedules.{happens, move_of, lowest_open, turn_task, picked, seed_after}
+use Rattle.vch_state.specs.declared.parts.Parts.{Parts}
+use Rattle.vch_state.specs.declared.frames.Working.{Working}
+use Rattle.vch_state.specs.Plain.{begun_of}
+use Rattle.vch_state.specs.Reached.{Stands}
+use Rattle.vch_core.specs.declared.turn.Cursor.{Cursor}
+use Rattle.vch_core.specs.Steps.{HasNext}
+
+abbrev pub all_of : Scenario → List ℕ
+all_of sc = numbers (length sc.flags)
+
+-- whose turn it is, or none for the end of the phase, in every state that the parts stand for
+unfoldable pub IsTurn : Parts → Option ℕ → Type 0
+IsTurn p choice = (m : Machine) → Stands p m → turn_task p.scenario m (lowest_open m (all_of p.scenario)) ≡ choice
+
+-- whom the seed chooses, and the seed after that
+unfoldable pub IsDraw : Parts → ℕ → Option ℕ → ℕ → Type 0
+IsDraw p seed choice next =
+    (m : Machine) → Stands p m → (picked (ready p.scenario m (all_of p.scenario)) next ≡ choice) × (seed_after (ready p.scenario m (all_of p.scenario)) seed ≡ next)
+
+-- no task has a next event, in every state that the parts stand for
+unfoldable pub IsResting : Parts → Type 0
+IsResting p = (m : Machine) → Stands p m → ready p.scenario m (all_of p.scenario) ≡ []
+
+-- the choice can be carried out
+abbrev pub CanGo : Parts → Option ℕ → Type 0
+CanGo p None = (p.phase < length p.scenario.phases) × IsResting p
+CanGo p (Some t) = (is_task p.scenario t ≡ true) × HasNext p t
+
+-- the move that was chosen was made, with memory wanted or not
+pub record Goes (choice : Option ℕ) (old new : Parts) : Type 0 where
+  pub scenario : new.scenario ≡ old.scenario
+  pub want : Bool
+  pub move : (m : Machine) → Stands old m → (n : Machine) × (happens old.scenario m (move_of (λ _. want) 0 choice) ≡ Some n) × Stands new n
+
+-- The cursor of a run in turn.
+
+-- the lines of the phase that is under way
+abbrev pub current_lines : Parts → List Line
+current_lines p = slice_index_or p.scenario.phases p.phase []
+
+-- the tasks of some lines, before others
+abbrev pub seen_after : List ℕ → List Line → List ℕ
+seen_after seen [] = seen
+seen_after seen (l ∷ lines) = seen_after (l.task ∷ seen) lines
+
+-- how many lines of a task are before the phase or among those seen
+abbrev pub lines_before : Scenario → ℕ → List ℕ → ℕ → ℕ
+lines_before sc phase seen t = count_by (λ u. u == t) seen + lines_until sc phase t
+
+-- each of these lines was begun
+abbrev pub AreBegun : Scenario → ℕ → List Working → List ℕ → List Line → Type 0
+AreBegun sc phase frames seen [] = Unit {0}
+AreBegun sc phase frames seen (l ∷ lines) =
+    (lines_before sc phase seen l.task < begun_of frames l.task) × AreBegun sc phase frames (l.task ∷ seen) lines
+
+-- the lines before the cursor were begun, and it has the number of each task's lines before it
+pub record IsCursor (p : Parts) (cursor : Cursor) : Type 0 where
+  pub passed_lines : List Line
+  pub rest : List Line
+  pub lines : current_lines p ≡ passed_lines ++ rest
+  pub line : cursor.line ≡ length passed_lines
+  pub begun : AreBegun p.scenario p.phase p.frames [] passed_lines
+  pub long : length cursor.passed ≡ 64
+  pub passed : (t : ℕ) → is_task p.scenario t ≡ true → slice_index_or cursor.passed (t - 1) 0 ≡ lines_before p.scenario p.phase (seen_after [] passed_lines) t
