@@ -1,12 +1,12 @@
 -- How the next move of a schedule is found and made.
 use Rattle.std.specs.Prelude.{◌≡◌, ◌<◌, ◌≤◌, ◌+◌, ◌-◌, ℕ, ◌==◌, true, Bool, IsTrue, List, [], ◌∷◌, ◌++◌, length, slice_index_or, Option, Some, None, is_some}
-use Rattle.std.specs.List.{count_by}
+use Rattle.std.specs.List.{count_by, filter, AllByRecursion}
 use Rattle.vch_model.specs.declared.call.Line.{Line}
 use Rattle.vch_model.specs.declared.lists.Scenario.{Scenario}
-use Rattle.vch_model.specs.Lines.{is_task, lines_until}
+use Rattle.vch_model.specs.Lines.{is_task, lines_until, phases_in}
 use Rattle.vch_machine.specs.State.{Machine}
 use Rattle.vch_machine.specs.Events.{phase_event, numbers, ready}
-use Rattle.vch_machine.specs.Schedules.{happens, move_of, lowest_open, turn_task, picked, seed_after}
+use Rattle.vch_machine.specs.Schedules.{happens, move_of, lowest_open, first_waiting, turn_task, picked, seed_after}
 use Rattle.vch_state.specs.declared.parts.Parts.{Parts}
 use Rattle.vch_state.specs.declared.frames.Working.{Working}
 use Rattle.vch_state.specs.Plain.{begun_of}
@@ -41,7 +41,23 @@ pub record Goes (choice : Option ℕ) (old new : Parts) : Type 0 where
   pub want : Bool
   pub move : (m : Machine) → Stands old m → (n : Machine) × (happens old.scenario m (move_of (λ _. want) 0 choice) ≡ Some n) × Stands new n
 
+-- the lowest task with a frame, in every state that the parts stand for
+unfoldable pub IsLowest : Parts → Option ℕ → Type 0
+IsLowest p choice = (m : Machine) → Stands p m → lowest_open m (all_of p.scenario) ≡ choice
+
+-- the task of the first line of the phase that was not begun
+unfoldable pub IsWaiting : Parts → Option ℕ → Type 0
+IsWaiting p choice = (m : Machine) → Stands p m → first_waiting p.scenario m [] (slice_index_or p.scenario.phases (phases_in m.past) []) ≡ choice
+
 -- The cursor of a run in turn.
+
+-- each line is of one of 64 tasks
+abbrev pub AreOfTasks : List Line → Type 0
+AreOfTasks lines = AllByRecursion (λ (l : Line). (0 < l.task) × (l.task ≤ 64)) lines
+
+-- how many lines are a task's
+abbrev pub lines_of_task : ℕ → List Line → ℕ
+lines_of_task t lines = length (filter (λ l. l.task == t) lines)
 
 -- the lines of the phase that is under way
 abbrev pub current_lines : Parts → List Line
@@ -71,3 +87,20 @@ pub record IsCursor (p : Parts) (cursor : Cursor) : Type 0 where
   pub begun : AreBegun p.scenario p.phase p.frames [] passed_lines
   pub long : length cursor.passed ≡ 64
   pub passed : (t : ℕ) → is_task p.scenario t ≡ true → slice_index_or cursor.passed (t - 1) 0 ≡ lines_before p.scenario p.phase (seen_after [] passed_lines) t
+
+-- the cursor of the state in which all lines of the phase were begun
+abbrev pub IsPassed : Parts → Option ℕ → Cursor → Type 0
+IsPassed p None cursor = cursor.line ≡ length (current_lines p)
+IsPassed p (Some t) cursor = Unit {0}
+
+-- the move in turn was made
+pub record Turns (old new : Parts) : Type 0 where
+  pub choice : Option ℕ
+  pub turn : IsTurn old choice
+  pub goes : Goes choice old new
+
+-- a draw of the seed was made, and its move
+pub record Draws (seed next : ℕ) (old new : Parts) : Type 0 where
+  pub choice : Option ℕ
+  pub draw : IsDraw old seed choice next
+  pub goes : Goes choice old new

@@ -1,6 +1,125 @@
-/// Where a run in turn stands: how many lines of the phase it has passed, and how many lines of each task are before that.
+ghost use Rattle.std.specs.Prelude.{◌≡◌, ◌<◌, ◌≤◌, ◌+◌, ◌-◌, ◌^◌, ◌∷◌, [], ℕ, length, slice_index_or, Some, None, IsTrue, true};
+ghost use Rattle.vch_model.specs.Lines.{is_task, lines_until};
+ghost use Rattle.vch_state.specs.Reached.{Reached};
+ghost use Rattle.vch_state.specs.UserOnly.{IsUserOnly};
+ghost use Rattle.vch_core.specs.Turning.{IsTurn, IsCursor, IsPassed, CanGo, Goes, Turns, IsLowest, IsWaiting, AreOfTasks, lines_of_task};
+
+use crate::stepped::event;
+use crate::stub::{begun, has_frame, know, next_phase};
+use vch_model::LineList;
+use vch_state::Core;
+
+/// Where a run in turn stands: how many lines of the phase it has passed, all of which were begun, and how many lines of
+/// each task are before that, from the first phase on.
 #[derive(Drop)]
 pub struct Cursor {
     pub line: usize,
     pub passed: [u32; 64],
+}
+
+/// Counts the lines of each task.
+fn pass_lines(lines: &LineList, passed: &mut [u32; 64])
+    requires tasks { AreOfTasks lines.now }
+    requires few { (i : ℕ) → slice_index_or passed.old i 0 + length lines.now < 2 ^ 32 }
+    ensures { (t : ℕ) → 0 < t → t ≤ 64 → slice_index_or passed.new (t - 1) 0 ≡ slice_index_or passed.old (t - 1) 0 + lines_of_task t lines.now }
+{
+    for i in 0..lines.len() {
+        passed[lines.at(i).task as usize - 1] += 1;
+    }
+}
+
+/// A cursor before the first line of the phase that is under way.
+pub fn start_cursor(core: &Core) -> Cursor
+    ensures { IsCursor core.now result }
+{
+    know(core);
+    let mut cursor = Cursor {
+        line: 0,
+        passed: [0; 64],
+    };
+    for i in 0..core.phase() as usize {
+        pass_lines(core.scenario().phases.at(i), &mut cursor.passed);
+    }
+    cursor
+}
+
+/// The lowest task that has a frame.
+fn lowest_frame(core: &Core) -> Option<u32>
+    ensures { IsLowest core.now result }
+{
+    know(core);
+    for task in 1..core.scenario().flags.len() as u32 + 1 {
+        if has_frame(core, task) {
+            return Some(task);
+        }
+    }
+    None
+}
+
+/// The task of the first line of the phase that was not begun. The cursor passes the lines before it.
+fn next_line(core: &Core, cursor: &mut Cursor) -> Option<u32>
+    requires more { core.now.phase < length core.now.scenario.phases }
+    requires cursor { IsCursor core.now cursor.old }
+    ensures waiting { IsWaiting core.now result }
+    ensures cursor { IsCursor core.now cursor.new }
+    ensures passed { IsPassed core.now result cursor.new }
+{
+    know(core);
+    let lines = core.scenario().phases.at(core.phase() as usize);
+    while cursor.line < lines.len() {
+        let task = lines.at(cursor.line).task;
+        if cursor.passed[task as usize - 1] >= begun(core, task) {
+            return Some(task);
+        }
+        cursor.passed[task as usize - 1] += 1;
+        cursor.line += 1;
+    }
+    None
+}
+
+/// The task whose turn it is, or none where the phase ends: the lowest one with a frame, else that of the first line that
+/// was not begun.
+fn next_turn(core: &Core, cursor: &mut Cursor) -> Option<u32>
+    requires more { core.now.phase < length core.now.scenario.phases }
+    requires cursor { IsCursor core.now cursor.old }
+    ensures turn { IsTurn core.now result }
+    ensures can { CanGo core.now result }
+    ensures cursor { IsCursor core.now cursor.new }
+    ensures passed { IsPassed core.now result cursor.new }
+{
+    know(core);
+    match lowest_frame(core) {
+        Some(task) => Some(task),
+        None => next_line(core, cursor),
+    }
+}
+
+/// The move that was chosen: an event of a task, or the end of the phase.
+pub fn go(core: &mut Core, choice: Option<u32>)
+    requires built { IsUserOnly core.old.scenario }
+    requires can { CanGo core.old choice }
+    ensures { Goes choice core.old core.new }
+{
+    match choice {
+        Some(task) => {
+            event(core, task);
+        }
+        None => next_phase(core),
+    }
+}
+
+/// One move in turn.
+pub fn turn(core: &mut Core, cursor: &mut Cursor)
+    requires built { IsUserOnly core.old.scenario }
+    requires more { core.old.phase < length core.old.scenario.phases }
+    requires cursor { IsCursor core.old cursor.old }
+    ensures turn { Turns core.old core.new }
+    ensures cursor { IsCursor core.new cursor.new }
+{
+    know(core);
+    let choice = next_turn(core, cursor);
+    if choice.is_none() {
+        cursor.line = 0;
+    }
+    go(core, choice);
 }

@@ -1,10 +1,5 @@
-use Rattle.std.proofs.Common.{rules, ◌≡◌, ◌<◌, length, Some, None, IsTrue, ℕ, ◌+◌, ◌-◌, ◌*◌, ◌≤◌, ◌/◌, ◌%◌, Bool, true, false, nat_eq, nat_lt, List, [], ◌∷◌, ◌++◌, slice_index_or, slice_set, bit_and, bit_or, Fits, w8, w32, w64, Bor, MutBor}
-use Rattle.vch_model.specs.Lines.{is_task}
-use Rattle.vch_state.specs.Reached.{MayFollow}
-use Rattle.vch_state.specs.UserOnly.{IsUserOnly}
-use Rattle.vch_core.specs.Steps.{HasNext, IsFrameNext, Steps}
+use Rattle.vch_state.proofs.RunOn.{may_follow}
 use Rattle.vch_core.proofs.stepped.event.Goals as goal
 
--- src/stepped.rt:24:1
 pub returns-then-has_value_event : goal.returns-then-has_value_event
-returns-then-has_value_event c = ?
+returns-then-has_value_event c = may_follow c.value_event.result c.args.task c.args.core.now c.value_event.new.core c.value_event.ensures.event

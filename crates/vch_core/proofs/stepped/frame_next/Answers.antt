@@ -1,10 +1,7 @@
-use Rattle.std.proofs.Common.{rules, ◌≡◌, ◌<◌, length, Some, None, IsTrue, ℕ, ◌+◌, ◌-◌, ◌*◌, ◌≤◌, ◌/◌, ◌%◌, Bool, true, false, nat_eq, nat_lt, List, [], ◌∷◌, ◌++◌, slice_index_or, slice_set, bit_and, bit_or, Fits, w8, w32, w64, Bor, MutBor}
-use Rattle.vch_model.specs.Lines.{is_task}
-use Rattle.vch_state.specs.Reached.{MayFollow}
-use Rattle.vch_state.specs.UserOnly.{IsUserOnly}
-use Rattle.vch_core.specs.Steps.{HasNext, IsFrameNext, Steps}
+use Rattle.std.proofs.Common.{sym, ◌∙◌}
+use Rattle.vch_core.proofs.Framed.{frame_goes_on, is_true}
 use Rattle.vch_core.proofs.stepped.frame_next.Goals as goal
 
--- src/stepped.rt:38:1
 pub returns-then-has_frame : goal.returns-then-has_frame
-returns-then-has_frame c = ?
+returns-then-has_frame c =
+    frame_goes_on c.args.core.now c.args.task c.next_kind.result c.know.ensures (is_true _ c.requires.task) (sym c.has_frame.ensures ∙ c.if-has_frame.true) c.next_kind.ensures

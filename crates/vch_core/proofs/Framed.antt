@@ -1,0 +1,113 @@
+-- What a reached core tells of a task: that a frame has a next event.
+use Rattle.std.proofs.Common.{◌≡◌, ℕ, ◌-◌, ◌<◌, ◌≤◌, Bool, true, false, List, [], ◌∷◌, refl, sym, ap, ◌∙◌, arith, subst, length, Option, Some, None, IsTrue}
+use Rattle.std.specs.Prelude.{is_some, IsSome, ◌↔◌, nat_lt}
+use Rattle.std.proofs.lemmas.Grind.{common_steps}
+use Rattle.vch_base.specs.declared.kind.Kind.{Kind}
+use Rattle.vch_base.specs.declared.key.Key.TheVariants as keys
+use Rattle.vch_model.specs.declared.lists.Scenario.{Scenario}
+use Rattle.vch_model.specs.declared.call.Call.{Call}
+use Rattle.vch_model.specs.Lines.{is_task}
+use Rattle.vch_machine.specs.State as machine
+use Rattle.vch_machine.specs.State.{Machine, tasked}
+use Rattle.vch_machine.specs.Next.{next_kind, current}
+use Rattle.vch_machine.specs.Events.{event}
+use Rattle.vch_machine.specs.Schedules.{Move, run_from_start}
+use Rattle.vch_legal.specs.Tie as tie
+use Rattle.vch_legal.proofs.Runs.{reached_stands}
+use Rattle.vch_legal.proofs.Turns.{opened_next}
+use Rattle.vch_state.specs.declared.parts.Parts.{Parts}
+use Rattle.vch_state.specs.declared.frame.Frame.{Frame}
+use Rattle.vch_state.specs.Plain.{Plain, frame_of, part_of}
+use Rattle.vch_state.specs.Shape.{Optional, IsFrame}
+use Rattle.vch_state.specs.Bounds.{Limited}
+use Rattle.vch_state.specs.Stands.{StandsFor}
+use Rattle.vch_state.specs.Reached.{IsState, IsEnd, IsEventBy, MayFollow, Reached, Stands, IsNext, plain_of}
+use Rattle.vch_state.proofs.Glue.{own_frame, in_parts}
+use Rattle.vch_core.specs.Steps.{IsFrameNext}
+
+-- a state that the parts stand for, and a run that ends there
+pub record Reach (p : Parts) : Type 0 where
+  pub moves : List Move
+  pub m : Machine
+  pub run : run_from_start p.scenario moves ≡ Some m
+  pub limited : Limited p.scenario
+  pub stands : StandsFor p.scenario (keys.User ∷ []) (plain_of p) m
+  pub state : Stands p m
+
+pub reach : (p : Parts) → Reached p → Reach p
+unfolding IsEnd IsState
+reach p r = record { moves = r.0; m = r.1; run = r.2; limited = r.3.0; stands = r.3.1; state = r.3 }
+
+pub from_state : (p : Parts) (m : Machine) → Stands p m → Limited p.scenario × StandsFor p.scenario (keys.User ∷ []) (plain_of p) m
+unfolding IsState
+from_state p m s = s
+
+pub next_of : (p : Parts) (t : ℕ) (kind : Option Kind) (m : Machine) → IsNext p t kind → Stands p m → next_kind p.scenario m t ≡ kind
+unfolding IsNext
+next_of p t kind m e s = e m s
+
+pub is_true : (b : Bool) → IsTrue b → b ≡ true
+is_true true h = refl
+is_true false h = cc
+
+optional_same : (c : Plain) (call : Option Call) (o : Option Frame) (q : Option machine.Frame) → Optional (IsFrame c call) o q → is_some q ≡ is_some o
+optional_same c call None None r = refl
+optional_same c call None (Some g) r = absurd r
+optional_same c call (Some f) None r = absurd r
+optional_same c call (Some f) (Some g) r = refl
+
+-- a task has a frame in the machine where it has one in the core
+pub frame_same : (p : Parts) (m : Machine) (t : ℕ) → StandsFor p.scenario (keys.User ∷ []) (plain_of p) m → is_task p.scenario t ≡ true → is_some (tasked m t).frame ≡ is_some (frame_of p.frames t)
+frame_same p m t s task =
+    let n = in_parts p.scenario (keys.User ∷ []) (plain_of p) m t s task in
+    optional_same (plain_of p) (current p.scenario m t) (part_of (plain_of p) t).frame (tasked m t).frame (s.shape.tasks t n.0 n.1).frame
+    ∙ ap is_some (own_frame p m t s task)
+
+some_is : (o : Option Frame) → is_some o ≡ true → IsSome o
+some_is None e = cc
+some_is (Some f) e = refl
+
+pub frame_goes_on : (p : Parts) (t : ℕ) (kind : Option Kind) → Reached p → is_task p.scenario t ≡ true → is_some (frame_of p.frames t) ≡ true → IsNext p t kind → IsFrameNext p t kind
+frame_goes_on p t kind r task frame e = by kind refl
+  where
+    x : Reach p
+    x = reach p r
+
+    there : is_some (next_kind p.scenario x.m t) ≡ true
+    there = opened_next p.scenario x.m t ((reached_stands p.scenario x.moves x.m x.run).tasks t task) (frame_same p x.m t x.stands task ∙ frame)
+
+    by : (k : Option Kind) → kind ≡ k → IsFrameNext p t k
+    by None g = let z : is_some kind ≡ true = subst (λ j. is_some j ≡ true) (next_of p t kind x.m e x.state) there in absurd (none_some kind g z)
+      where
+        none_some : (k : Option Kind) → k ≡ None → is_some k ≡ true → ⊥
+        none_some None a b = cc
+        none_some (Some j) a b = cc
+    by (Some k) g = (some_is (frame_of p.frames t) frame, subst (IsNext p t) g e)
+
+-- what an event does, from a state that the parts stand for
+pub record Did (p q : Parts) (t : ℕ) (kind : Kind) (want : Bool) (m : Machine) : Type 0 where
+  pub n : Machine
+  pub event : event p.scenario want m t ≡ Some n
+  pub next : next_kind p.scenario m t ≡ Some kind
+  pub stands : Stands q n
+
+pub did : (p q : Parts) (t : ℕ) (kind : Kind) (f : MayFollow kind t p q) (m : Machine) → Stands p m → Did p q t kind f.want m
+unfolding IsEventBy
+did p q t kind f m s = let e = f.event m s in record { n = e.0; event = e.1; next = e.2; stands = subst (λ sc. IsState sc (plain_of q) e.0) (sym f.scenario) e.3 }
+
+pub same_kind : (p q : Parts) (t : ℕ) (kind done : Kind) → Reached p → IsNext p t (Some kind) → MayFollow done t p q → IsNext p t (Some done)
+same_kind p q t kind done r e f =
+    let x = reach p r in
+    let y = did p q t done f x.m x.state in
+    subst (IsNext p t) (sym (next_of p t (Some kind) x.m e x.state) ∙ y.next) e
+
+pub not_ended : (a b : ℕ) (c : Bool) → IsTrue c ↔ (a ≤ b) → c ≡ false → b < a
+not_ended a b c i e = test (nat_lt b a) refl
+  where
+    by : (c : Bool) → IsTrue c → c ≡ false → ⊥
+    by true h e = cc
+    by false h e = cc
+
+    test : (d : Bool) → nat_lt b a ≡ d → b < a
+    test true g = grind (arith, common_steps)
+    test false g = let l : a ≤ b = grind (arith, common_steps) in absurd (by c (i.1 l) e)
