@@ -15,6 +15,7 @@ pub mod Taking
 pub mod FrameParts
 pub mod LetsGo
 pub mod Glue
+pub mod NextKinds
 pub mod LetsGoEvent
 pub mod OneClaim
 pub mod Asks

@@ -48,6 +48,7 @@ mod frame;
 mod frames;
 mod let_go;
 mod made;
+mod next;
 mod parts;
 mod places;
 mod recheck;
