@@ -1,3 +1,6 @@
+pub mod OfTasks
+pub mod Placing
+pub mod CallsFound
 pub mod Boths
 pub mod Stable
 pub mod Claims
@@ -12,6 +15,7 @@ pub mod Taking
 pub mod FrameParts
 pub mod LetsGo
 pub mod Glue
+pub mod NextKinds
 pub mod LetsGoEvent
 pub mod OneClaim
 pub mod Asks
