@@ -1,5 +1,6 @@
 pub mod Boths
 pub mod Stable
+pub mod Maps
 pub mod Claims
 pub mod Expected
 pub mod Held
