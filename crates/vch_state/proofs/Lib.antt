@@ -4,10 +4,12 @@ pub mod Maps
 pub mod Claims
 pub mod Expected
 pub mod Held
+pub mod Known
 pub mod Replaced
 pub mod Closing
 pub mod Sums
 pub mod Spending
+pub mod OnClaims
 pub mod Keys
 pub mod Taking
 pub mod FrameParts
