@@ -10,6 +10,7 @@ pub mod Closing
 pub mod Sums
 pub mod Spending
 pub mod OnClaims
+pub mod Holders
 pub mod Keys
 pub mod Taking
 pub mod FrameParts
