@@ -11,9 +11,12 @@ pub mod Sums
 pub mod Spending
 pub mod OnClaims
 pub mod Holders
+pub mod Records
 pub mod Keys
 pub mod Taking
 pub mod FrameParts
+pub mod Referring
+pub mod Refers
 pub mod LetsGo
 pub mod Glue
 pub mod LetsGoEvent
