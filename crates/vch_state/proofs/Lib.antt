@@ -1,3 +1,6 @@
+pub mod OfTasks
+pub mod Placing
+pub mod CallsFound
 pub mod Boths
 pub mod Stable
 pub mod Maps
