@@ -27,8 +27,8 @@ module _ (c : Plain) where
   -- the indices of a map are those of its handles
   pub items_lets : (v : Indices) (w : Handles) → IsMap c v w → Pairwise (IsLet c) (items v) (places w)
   items_lets v w p =
-      pairwise_append (IsLet c) _ _ _ _ (item_lets keys.Importance (index_of keys.Importance v) w.importance p.0)
-      (pairwise_append (IsLet c) _ _ _ _ (item_lets keys.Bank (index_of keys.Bank v) w.bank p.1.0) (item_lets keys.User (index_of keys.User v) w.user p.1.1.0))
+      pairwise_append (IsLet c) _ _ _ _ (item_lets keys.Importance (index_of keys.Importance v) w.importance p.0.0)
+      (pairwise_append (IsLet c) _ _ _ _ (item_lets keys.Bank (index_of keys.Bank v) w.bank p.0.1.0) (item_lets keys.User (index_of keys.User v) w.user p.0.1.1.0))
 
 -- the handles of a map as items hold what the map held
 pub places_hold : (k : Key) (w : Handles) → flat_map (let_holds k) (places w) ≡ listed (of_key k w)
