@@ -1,5 +1,5 @@
 -- The lines of all tasks are no more than all lines, and so what is left at the start is bounded by the number of calls.
-use Rattle.std.proofs.Common.{◌≡◌, ℕ, zero, suc, ◌+◌, ◌-◌, ◌*◌, ◌<◌, ◌≤◌, ◌==◌, nat_lt, Bool, true, false, cond, List, [], ◌∷◌, ◌++◌, refl, arith, sym, ap, ◌∙◌, length, map, drop, subst}
+use Rattle.std.proofs.Common.{◌≡◌, ℕ, zero, suc, ◌+◌, ◌-◌, ◌*◌, ◌<◌, ◌≤◌, ◌==◌, nat_lt, Bool, true, false, cond, List, [], ◌∷◌, ◌++◌, refl, arith, sym, ap, ◌∙◌, length, length-append, map}
 use Rattle.std.specs.Prelude.{if◌then◌else◌}
 use Rattle.std.specs.List.{filter}
 use Rattle.std.proofs.lemmas.Grind.{common_steps}
@@ -65,10 +65,6 @@ all_lines (l ∷ ls) t n =
     let d : from ls t n ≤ length ls = all_lines ls t n in
     omega (arith, a, b, d)
 
-length_append : {A : Type 0} (xs ys : List A) → length (xs ++ ys) ≡ length xs + length ys
-length_append [] ys = omega arith
-length_append (x ∷ xs) ys = let e : length (xs ++ ys) ≡ length xs + length ys = length_append xs ys in omega (arith, e)
-
 abbrev numbered : ℕ → List Line → List Numbered
 numbered phase lines = map (λ line. (phase, line)) lines
 
@@ -79,7 +75,7 @@ length_numbered phase (line ∷ lines) = ap suc (length_numbered phase lines)
 line_sum : (phase : ℕ) (phases : List (List Line)) → length (lines_from phase phases) ≡ line_count phases
 line_sum phase [] = refl
 line_sum phase (lines ∷ phases) =
-    let a : length (numbered phase lines ++ lines_from (phase + 1) phases) ≡ length (numbered phase lines) + length (lines_from (phase + 1) phases) = length_append (numbered phase lines) (lines_from (phase + 1) phases) in
+    let a : length (numbered phase lines ++ lines_from (phase + 1) phases) ≡ length (numbered phase lines) + length (lines_from (phase + 1) phases) = length-append (numbered phase lines) (lines_from (phase + 1) phases) in
     let b : length (numbered phase lines) ≡ length lines = length_numbered phase lines in
     let d : length (lines_from (phase + 1) phases) ≡ line_count phases = line_sum (phase + 1) phases in
     omega (arith, a, b, d)

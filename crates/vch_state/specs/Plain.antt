@@ -1,5 +1,5 @@
 -- The parts of a core as plain data.
-use Rattle.std.specs.Prelude.{ℕ, ◌-◌, ◌||◌, not, if◌then◌else◌, Bool, true, false, List, [], ◌∷◌, Option, Some, None, is_some, slice_index_or, slice_set}
+use Rattle.std.specs.Prelude.{ℕ, ◌+◌, ◌-◌, ◌||◌, not, if◌then◌else◌, Bool, true, false, List, [], ◌∷◌, Option, Some, None, is_some, slice_index_or, slice_set}
 use Rattle.vch_base.specs.Managers.{Kept}
 use Rattle.vch_entry.specs.Entries.{Entries}
 use Rattle.vch_machine.specs.State.{Keyed, is_empty}
@@ -36,6 +36,10 @@ no_names = record { names = []; next = 1; spare = 0 }
 
 abbrev pub names_of : List Names → ℕ → Names
 names_of spaces t = slice_index_or spaces (t - 1) no_names
+
+-- with one call more that a task has begun
+abbrev pub with_begun_of : List Working → ℕ → List Working
+with_begun_of frames t = slice_set frames (t - 1) (record (working_of frames t) { begun = begun_of frames t + 1 })
 
 -- nothing is claimed
 abbrev pub is_nothing : Claiming → Bool

@@ -60,6 +60,7 @@ mod tally;
 
 pub use frame::{Claiming, Frame, KeyIndex, KeyReceipt, Lets};
 pub use frames::{Frames, Working};
+pub use let_go::closed;
 pub use made::MadeNumbers;
 pub use parts::Parts;
 pub use script::Script;
