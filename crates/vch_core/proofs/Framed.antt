@@ -1,5 +1,5 @@
 -- What a reached core tells of a task: that a frame has a next event.
-use Rattle.std.proofs.Common.{◌≡◌, ℕ, ◌-◌, ◌<◌, ◌≤◌, Bool, true, false, List, [], ◌∷◌, refl, sym, ap, ◌∙◌, arith, subst, length, Option, Some, None, IsTrue}
+use Rattle.std.proofs.Common.{◌≡◌, ℕ, zero, suc, get_or, ◌-◌, ◌<◌, ◌≤◌, Bool, true, false, List, [], ◌∷◌, refl, sym, ap, ◌∙◌, arith, subst, length, Option, Some, None, IsTrue}
 use Rattle.std.specs.Prelude.{is_some, IsSome, ◌↔◌, nat_lt}
 use Rattle.std.proofs.lemmas.Grind.{common_steps}
 use Rattle.vch_base.specs.declared.kind.Kind.{Kind}
@@ -16,12 +16,14 @@ use Rattle.vch_legal.specs.Tie as tie
 use Rattle.vch_legal.proofs.Runs.{reached_stands}
 use Rattle.vch_legal.proofs.Turns.{opened_next}
 use Rattle.vch_state.specs.declared.parts.Parts.{Parts}
+use Rattle.vch_ports.specs.Names.{Names}
+use Rattle.vch_state.specs.declared.frames.Working.{Working}
 use Rattle.vch_state.specs.declared.frame.Frame.{Frame}
-use Rattle.vch_state.specs.Plain.{Plain, frame_of, part_of}
+use Rattle.vch_state.specs.Plain.{Plain, frame_of, begun_of, part_of, idle_part, resting}
 use Rattle.vch_state.specs.Shape.{Optional, IsFrame}
 use Rattle.vch_state.specs.Bounds.{Limited}
 use Rattle.vch_state.specs.Stands.{StandsFor}
-use Rattle.vch_state.specs.Reached.{IsState, IsEnd, IsEventBy, MayFollow, Reached, Stands, IsNext, plain_of}
+use Rattle.vch_state.specs.Reached.{IsState, IsEnd, IsEventBy, MayFollow, Reached, Stands, IsNext, plain_of, parts_in}
 use Rattle.vch_state.proofs.Glue.{own_frame, in_parts}
 use Rattle.vch_core.specs.Steps.{IsFrameNext}
 
@@ -50,6 +52,9 @@ pub is_true : (b : Bool) → IsTrue b → b ≡ true
 is_true true h = refl
 is_true false h = cc
 
+pub to_true : (b : Bool) → b ≡ true → IsTrue b
+to_true b e = subst IsTrue (sym e) refl
+
 optional_same : (c : Plain) (call : Option Call) (o : Option Frame) (q : Option machine.Frame) → Optional (IsFrame c call) o q → is_some q ≡ is_some o
 optional_same c call None None r = refl
 optional_same c call None (Some g) r = absurd r
@@ -62,6 +67,22 @@ frame_same p m t s task =
     let n = in_parts p.scenario (keys.User ∷ []) (plain_of p) m t s task in
     optional_same (plain_of p) (current p.scenario m t) (part_of (plain_of p) t).frame (tasked m t).frame (s.shape.tasks t n.0 n.1).frame
     ∙ ap is_some (own_frame p m t s task)
+
+is_there : (o : Option Frame) → IsSome o → is_some o ≡ true
+is_there None e = cc
+is_there (Some f) e = refl
+
+pub true_some : (b : Bool) (o : Option Frame) → IsTrue b ↔ IsSome o → b ≡ true → is_some o ≡ true
+true_some true o i e = is_there o (i.0 e)
+true_some false o i e = cc
+
+pub false_none : (b : Bool) (o : Option Frame) → IsTrue b ↔ IsSome o → b ≡ false → is_some o ≡ false
+false_none true o i e = cc
+false_none false None i e = refl
+false_none false (Some f) i e = absurd (none (i.1 refl))
+  where
+    none : IsTrue false → ⊥
+    none h = cc
 
 some_is : (o : Option Frame) → is_some o ≡ true → IsSome o
 some_is None e = cc
@@ -111,3 +132,15 @@ not_ended a b c i e = test (nat_lt b a) refl
     test : (d : Bool) → nat_lt b a ≡ d → b < a
     test true g = grind (arith, common_steps)
     test false g = let l : a ≤ b = grind (arith, common_steps) in absurd (by c (i.1 l) e)
+
+-- the calls that a task has begun
+pub begun_same : (p : Parts) (m : Machine) (t : ℕ) → StandsFor p.scenario (keys.User ∷ []) (plain_of p) m → is_task p.scenario t ≡ true → begun_of p.frames t ≡ (tasked m t).begun
+begun_same p m t s task =
+    let n = in_parts p.scenario (keys.User ∷ []) (plain_of p) m t s task in
+    sym (parts_begun p.spaces p.frames (t - 1) n.1) ∙ (s.shape.tasks t n.0 n.1).begun
+  where
+    parts_begun : (ss : List Names) (fs : List Working) (i : ℕ) → i < length (parts_in ss fs) → (get_or (parts_in ss fs) i idle_part).begun ≡ (get_or fs i resting).begun
+    parts_begun [] fs i l = absurd (omega arith)
+    parts_begun (s ∷ ss) [] i l = absurd (omega arith)
+    parts_begun (s ∷ ss) (x ∷ fs) zero l = refl
+    parts_begun (s ∷ ss) (x ∷ fs) (suc i) l = parts_begun ss fs i (omega arith)

@@ -1,3 +1,6 @@
 pub mod Growing
 pub mod Framed
 pub mod Passing
+pub mod Lowest
+pub mod Going
+pub mod Waiting

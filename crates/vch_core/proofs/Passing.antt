@@ -48,7 +48,7 @@ few_of_task t (x ∷ lines) =
     at_most false = omega arith
 
 -- a line is counted
-set_count : (now : List ℕ) (t u : ℕ) → 0 < t → 0 < u → u - 1 < length now → get_or (set now (u - 1) (get_or now (u - 1) 0 + 1)) (t - 1) 0 ≡ get_or now (t - 1) 0 + bit (u == t)
+pub set_count : (now : List ℕ) (t u : ℕ) → 0 < t → 0 < u → u - 1 < length now → get_or (set now (u - 1) (get_or now (u - 1) 0 + 1)) (t - 1) 0 ≡ get_or now (t - 1) 0 + bit (u == t)
 set_count now t u p q l = by (u == t) refl
   where
     by : (b : Bool) → (u == t) ≡ b → get_or (set now (u - 1) (get_or now (u - 1) 0 + 1)) (t - 1) 0 ≡ get_or now (t - 1) 0 + bit b

@@ -1,5 +1,5 @@
 -- How the next move of a schedule is found and made.
-use Rattle.std.specs.Prelude.{◌≡◌, ◌<◌, ◌≤◌, ◌+◌, ◌-◌, ℕ, ◌==◌, true, Bool, IsTrue, List, [], ◌∷◌, ◌++◌, length, slice_index_or, Option, Some, None, is_some}
+use Rattle.std.specs.Prelude.{◌≡◌, ◌<◌, ◌≤◌, ◌+◌, ◌-◌, ℕ, ◌==◌, true, Bool, IsTrue, List, [], ◌∷◌, ◌++◌, length, slice_index_or, Option, Some, None, IsSome}
 use Rattle.std.specs.List.{count_by, filter, AllByRecursion}
 use Rattle.vch_model.specs.declared.call.Line.{Line}
 use Rattle.vch_model.specs.declared.lists.Scenario.{Scenario}
@@ -9,7 +9,8 @@ use Rattle.vch_machine.specs.Events.{phase_event, numbers, ready}
 use Rattle.vch_machine.specs.Schedules.{happens, move_of, lowest_open, first_waiting, turn_task, picked, seed_after}
 use Rattle.vch_state.specs.declared.parts.Parts.{Parts}
 use Rattle.vch_state.specs.declared.frames.Working.{Working}
-use Rattle.vch_state.specs.Plain.{begun_of}
+use Rattle.vch_state.specs.Plain.{begun_of, frame_of}
+use Rattle.vch_state.specs.Bounds.{IsOfTask}
 use Rattle.vch_state.specs.Reached.{Stands}
 use Rattle.vch_core.specs.declared.turn.Cursor.{Cursor}
 use Rattle.vch_core.specs.Steps.{HasNext}
@@ -45,6 +46,11 @@ pub record Goes (choice : Option ℕ) (old new : Parts) : Type 0 where
 unfoldable pub IsLowest : Parts → Option ℕ → Type 0
 IsLowest p choice = (m : Machine) → Stands p m → lowest_open m (all_of p.scenario) ≡ choice
 
+-- a task that has a frame, or none
+abbrev pub OfFrame : Parts → Option ℕ → Type 0
+OfFrame p None = Unit {0}
+OfFrame p (Some t) = (is_task p.scenario t ≡ true) × IsSome (frame_of p.frames t)
+
 -- the task of the first line of the phase that was not begun
 unfoldable pub IsWaiting : Parts → Option ℕ → Type 0
 IsWaiting p choice = (m : Machine) → Stands p m → first_waiting p.scenario m [] (slice_index_or p.scenario.phases (phases_in m.past) []) ≡ choice
@@ -53,7 +59,7 @@ IsWaiting p choice = (m : Machine) → Stands p m → first_waiting p.scenario m
 
 -- each line is of one of 64 tasks
 abbrev pub AreOfTasks : List Line → Type 0
-AreOfTasks lines = AllByRecursion (λ (l : Line). (0 < l.task) × (l.task ≤ 64)) lines
+AreOfTasks lines = AllByRecursion (IsOfTask 64) lines
 
 -- how many lines are a task's
 abbrev pub lines_of_task : ℕ → List Line → ℕ

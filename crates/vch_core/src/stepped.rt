@@ -4,7 +4,7 @@ ghost use Rattle.vch_state.specs.Reached.{MayFollow};
 ghost use Rattle.vch_state.specs.UserOnly.{IsUserOnly};
 ghost use Rattle.vch_core.specs.Steps.{HasNext, IsFrameNext, Steps};
 
-use crate::stub::{create_event, has_frame, has_value_event, know, next_kind, value_event};
+use crate::stub::{create_event, has_value_event, value_event};
 use vch_base::Kind;
 use vch_state::Core;
 
@@ -39,9 +39,9 @@ fn frame_next(core: &Core, task: u32) -> Option<Kind>
     requires task { IsTrue (is_task core.now.scenario task) }
     ensures { IsFrameNext core.now task result }
 {
-    know(core);
-    if has_frame(core, task) {
-        next_kind(core, task)
+    core.know();
+    if core.has_frame(task) {
+        core.next_kind(task)
     } else {
         None
     }
@@ -56,8 +56,8 @@ pub fn step(core: &mut Core, task: u32) -> Stepped
     if core.ended() {
         return Stepped::Ended;
     }
-    know(core);
-    let Some(_kind) = next_kind(core, task) else {
+    core.know();
+    let Some(_kind) = core.next_kind(task) else {
         return Stepped::PhaseEnd;
     };
     let did = event(core, task);

@@ -28,37 +28,11 @@ pub fn value_event(core: &mut Core, task: u32) -> Kind
     Kind::Refer
 }
 
-pub fn next_kind(core: &Core, task: u32) -> Option<Kind>
-    requires task { IsTrue (is_task core.now.scenario task) }
-    ensures { IsNext core.now task result }
-{
-    None
-}
-
-pub fn know(core: &Core)
-    ensures { Reached core.now }
-{
-}
-
 pub fn has_value_event(core: &Core, task: u32) -> bool
     requires task { IsTrue (is_task core.now.scenario task) }
     ensures { result ≡ is_some (value_kind (frame_of core.now.frames task)) }
 {
     false
-}
-
-pub fn has_frame(core: &Core, task: u32) -> bool
-    requires task { IsTrue (is_task core.now.scenario task) }
-    ensures { result ≡ is_some (frame_of core.now.frames task) }
-{
-    false
-}
-
-pub fn begun(core: &Core, task: u32) -> u32
-    requires task { IsTrue (is_task core.now.scenario task) }
-    ensures { result ≡ begun_of core.now.frames task }
-{
-    0
 }
 
 pub fn next_phase(core: &mut Core)

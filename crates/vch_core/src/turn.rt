@@ -2,10 +2,10 @@ ghost use Rattle.std.specs.Prelude.{◌≡◌, ◌<◌, ◌≤◌, ◌+◌, ◌-
 ghost use Rattle.vch_model.specs.Lines.{is_task, lines_until};
 ghost use Rattle.vch_state.specs.Reached.{Reached};
 ghost use Rattle.vch_state.specs.UserOnly.{IsUserOnly};
-ghost use Rattle.vch_core.specs.Turning.{IsTurn, IsCursor, IsPassed, CanGo, Goes, Turns, IsLowest, IsWaiting, AreOfTasks, lines_of_task};
+ghost use Rattle.vch_core.specs.Turning.{IsTurn, IsCursor, IsPassed, CanGo, Goes, Turns, IsLowest, OfFrame, IsWaiting, AreOfTasks, lines_of_task};
 
 use crate::stepped::event;
-use crate::stub::{begun, has_frame, know, next_phase};
+use crate::stub::next_phase;
 use vch_model::LineList;
 use vch_state::Core;
 
@@ -32,7 +32,7 @@ fn pass_lines(lines: &LineList, passed: &mut [u32; 64])
 pub fn start_cursor(core: &Core) -> Cursor
     ensures { IsCursor core.now result }
 {
-    know(core);
+    core.know();
     let mut cursor = Cursor {
         line: 0,
         passed: [0; 64],
@@ -45,11 +45,12 @@ pub fn start_cursor(core: &Core) -> Cursor
 
 /// The lowest task that has a frame.
 fn lowest_frame(core: &Core) -> Option<u32>
-    ensures { IsLowest core.now result }
+    ensures lowest { IsLowest core.now result }
+    ensures can { OfFrame core.now result }
 {
-    know(core);
+    core.know();
     for task in 1..core.scenario().flags.len() as u32 + 1 {
-        if has_frame(core, task) {
+        if core.has_frame(task) {
             return Some(task);
         }
     }
@@ -64,14 +65,15 @@ fn next_line(core: &Core, cursor: &mut Cursor) -> Option<u32>
     ensures cursor { IsCursor core.now cursor.new }
     ensures passed { IsPassed core.now result cursor.new }
 {
-    know(core);
+    core.know();
     let lines = core.scenario().phases.at(core.phase() as usize);
     while cursor.line < lines.len() {
         let task = lines.at(cursor.line).task;
-        if cursor.passed[task as usize - 1] >= begun(core, task) {
+        let seat = task as usize - 1;
+        if cursor.passed[seat] >= core.begun(task) {
             return Some(task);
         }
-        cursor.passed[task as usize - 1] += 1;
+        cursor.passed[seat] += 1;
         cursor.line += 1;
     }
     None
@@ -87,7 +89,7 @@ fn next_turn(core: &Core, cursor: &mut Cursor) -> Option<u32>
     ensures cursor { IsCursor core.now cursor.new }
     ensures passed { IsPassed core.now result cursor.new }
 {
-    know(core);
+    core.know();
     match lowest_frame(core) {
         Some(task) => Some(task),
         None => next_line(core, cursor),
@@ -116,7 +118,7 @@ pub fn turn(core: &mut Core, cursor: &mut Cursor)
     ensures turn { Turns core.old core.new }
     ensures cursor { IsCursor core.new cursor.new }
 {
-    know(core);
+    core.know();
     let choice = next_turn(core, cursor);
     if choice.is_none() {
         cursor.line = 0;

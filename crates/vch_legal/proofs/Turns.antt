@@ -93,7 +93,7 @@ opened_next sc m t s h = by_frame (tasked m t).frame refl h s.forming s.open_fra
 
 -- the first line that was not begun
 
-count_cons : (t x : ℕ) (xs : List ℕ) → count_by (λ u. u == t) (x ∷ xs) ≡ bit (x == t) + count_by (λ u. u == t) xs
+pub count_cons : (t x : ℕ) (xs : List ℕ) → count_by (λ u. u == t) (x ∷ xs) ≡ bit (x == t) + count_by (λ u. u == t) xs
 count_cons t x xs =
     sym (length-filter (λ u. u == t) (x ∷ xs)) ∙ (by_test (x == t)
     ∙ ap (λ n. bit (x == t) + n) (length-filter (λ u. u == t) xs))

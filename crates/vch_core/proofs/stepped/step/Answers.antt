@@ -1,6 +1,10 @@
 use Rattle.vch_core.proofs.Framed.{same_kind, not_ended}
+use Rattle.vch_core.proofs.Going.{has_next}
 use Rattle.std.proofs.Common.{length}
 use Rattle.vch_core.proofs.stepped.step.Goals as goal
+
+pub event-did-requires-clause-next : goal.event-did-requires-clause-next
+event-did-requires-clause-next c = has_next c.args.core.now c.args.task c.in-Some._kind c.in-Some.ensures
 
 pub returns : goal.returns
 returns c = (
