@@ -4,3 +4,4 @@ pub mod Passing
 pub mod Lowest
 pub mod Going
 pub mod Waiting
+pub mod Starting

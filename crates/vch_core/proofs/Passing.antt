@@ -29,11 +29,7 @@ drop_at (l ∷ lines) (suc i) x e = drop_at lines i x e ∙ ap (λ n. x ∷ drop
     next i = omega arith
 
 pub one_more : (t : ℕ) (x : Line) (lines : List Line) → lines_of_task t (x ∷ lines) ≡ bit (x.task == t) + lines_of_task t lines
-one_more t x lines = by (x.task == t)
-  where
-    by : (b : Bool) → length (cond b (x ∷ filter (λ l. l.task == t) lines) (filter (λ l. l.task == t) lines)) ≡ bit b + lines_of_task t lines
-    by true = omega arith
-    by false = omega arith
+one_more t x lines = refl
 
 pub few_of_task : (t : ℕ) (lines : List Line) → lines_of_task t lines ≤ length lines
 few_of_task t [] = omega arith

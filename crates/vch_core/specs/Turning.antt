@@ -1,12 +1,13 @@
 -- How the next move of a schedule is found and made.
 use Rattle.std.specs.Prelude.{◌≡◌, ◌<◌, ◌≤◌, ◌+◌, ◌-◌, ℕ, ◌==◌, true, Bool, IsTrue, List, [], ◌∷◌, ◌++◌, length, slice_index_or, Option, Some, None, IsSome}
-use Rattle.std.specs.List.{count_by, filter, AllByRecursion}
+use Rattle.std.specs.List.{count_by, AllByRecursion}
 use Rattle.vch_model.specs.declared.call.Line.{Line}
 use Rattle.vch_model.specs.declared.lists.Scenario.{Scenario}
 use Rattle.vch_model.specs.Lines.{is_task, lines_until, phases_in}
 use Rattle.vch_machine.specs.State.{Machine}
 use Rattle.vch_machine.specs.Events.{phase_event, numbers, ready}
 use Rattle.vch_machine.specs.Schedules.{happens, move_of, lowest_open, first_waiting, turn_task, picked, seed_after}
+use Rattle.vch_legal.specs.Facts.{times}
 use Rattle.vch_state.specs.declared.parts.Parts.{Parts}
 use Rattle.vch_state.specs.declared.frames.Working.{Working}
 use Rattle.vch_state.specs.Plain.{begun_of, frame_of}
@@ -63,7 +64,7 @@ AreOfTasks lines = AllByRecursion (IsOfTask 64) lines
 
 -- how many lines are a task's
 abbrev pub lines_of_task : ℕ → List Line → ℕ
-lines_of_task t lines = length (filter (λ l. l.task == t) lines)
+lines_of_task t lines = times (λ (l : Line). l.task == t) lines
 
 -- the lines of the phase that is under way
 abbrev pub current_lines : Parts → List Line

@@ -1,4 +1,4 @@
-ghost use Rattle.std.specs.Prelude.{◌≡◌, ◌<◌, ◌≤◌, ◌+◌, ◌-◌, ◌^◌, ◌∷◌, [], ℕ, length, slice_index_or, Some, None, IsTrue, true};
+ghost use Rattle.std.specs.Prelude.{◌≡◌, ◌<◌, ◌≤◌, ◌+◌, ◌-◌, ◌^◌, ◌∷◌, [], ℕ, length, replicate, slice_index_or, Some, None, IsTrue, true};
 ghost use Rattle.vch_model.specs.Lines.{is_task, lines_until};
 ghost use Rattle.vch_state.specs.Reached.{Reached};
 ghost use Rattle.vch_state.specs.UserOnly.{IsUserOnly};
@@ -21,10 +21,21 @@ pub struct Cursor {
 fn pass_lines(lines: &LineList, passed: &mut [u32; 64])
     requires tasks { AreOfTasks lines.now }
     requires few { (i : ℕ) → slice_index_or passed.old i 0 + length lines.now < 2 ^ 32 }
-    ensures { (t : ℕ) → 0 < t → t ≤ 64 → slice_index_or passed.new (t - 1) 0 ≡ slice_index_or passed.old (t - 1) 0 + lines_of_task t lines.now }
+    ensures long { length passed.new ≡ 64 }
+    ensures counts { (t : ℕ) → 0 < t → t ≤ 64 → slice_index_or passed.new (t - 1) 0 ≡ slice_index_or passed.old (t - 1) 0 + lines_of_task t lines.now }
 {
     for i in 0..lines.len() {
         passed[lines.at(i).task as usize - 1] += 1;
+    }
+}
+
+/// A cursor before the first line of all.
+fn first_cursor() -> Cursor
+    ensures { result ≡ record { line = 0; passed = replicate 64 0 } }
+{
+    Cursor {
+        line: 0,
+        passed: [0; 64],
     }
 }
 
@@ -33,10 +44,7 @@ pub fn start_cursor(core: &Core) -> Cursor
     ensures { IsCursor core.now result }
 {
     core.know();
-    let mut cursor = Cursor {
-        line: 0,
-        passed: [0; 64],
-    };
+    let mut cursor = first_cursor();
     for i in 0..core.phase() as usize {
         pass_lines(core.scenario().phases.at(i), &mut cursor.passed);
     }
