@@ -24,5 +24,6 @@ pub mod Unused
 pub mod Rechecks
 pub mod RechecksEvent
 pub mod FromStart
+pub mod PhaseEnds
 pub mod Loops
 pub mod RunOn
