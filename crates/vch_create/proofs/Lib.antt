@@ -5,3 +5,7 @@ pub mod Quiet
 pub mod Refused
 pub mod Own
 pub mod RefusedEvent
+pub mod CallsUser
+pub mod Begun
+pub mod BeginMachine
+pub mod BeginEvent
