@@ -20,6 +20,7 @@ pub mod Refers
 pub mod LetsGo
 pub mod Glue
 pub mod LetsGoEvent
+pub mod RefersEvent
 pub mod OneClaim
 pub mod Asks
 pub mod AsksEvent

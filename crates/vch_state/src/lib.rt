@@ -44,12 +44,15 @@
 
 mod ask;
 mod copy;
+mod forming;
 mod frame;
 mod frames;
 mod let_go;
 mod made;
 mod parts;
 mod recheck;
+mod refer;
+mod record;
 mod spaces;
 mod start;
 mod state;
