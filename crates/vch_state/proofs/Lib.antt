@@ -1,3 +1,6 @@
+pub mod OfTasks
+pub mod Placing
+pub mod CallsFound
 pub mod Boths
 pub mod Stable
 pub mod Maps
@@ -19,6 +22,7 @@ pub mod Referring
 pub mod Refers
 pub mod LetsGo
 pub mod Glue
+pub mod NextKinds
 pub mod LetsGoEvent
 pub mod RefersEvent
 pub mod OneClaim

@@ -33,8 +33,8 @@
 //! recheck_event: made is not 1 but refs is not 0: the claim ends, the value stays
 //! ```
 //!
-//! Of the events, LetGo, Ask and Recheck are here, each a function of its own; Make, Refer, Begin, Work, Place and the
-//! end of a phase are not yet. A proved caller:
+//! Of the events, LetGo, Ask, Recheck and Refer are here, each a function of its own, and `value_event` does which of them
+//! is next; Make, Begin, Work, Place and the end of a phase are not. A proved caller:
 //!
 //! ```rust
 //! let mut core = Core::start(alloc, &scenario)?;
@@ -49,19 +49,24 @@ mod frame;
 mod frames;
 mod let_go;
 mod made;
+mod next;
 mod parts;
+mod places;
 mod recheck;
-mod refer;
 mod record;
+mod refer;
+mod script;
 mod spaces;
 mod start;
 mod state;
 mod tally;
+mod value;
 
 pub use frame::{Claiming, Frame, KeyIndex, KeyReceipt, Lets};
 pub use frames::{Frames, Working};
 pub use made::MadeNumbers;
 pub use parts::Parts;
+pub use script::Script;
 pub use spaces::Spaces;
 pub use state::Core;
 pub use tally::Tally;

@@ -1,8 +1,6 @@
 ghost use Rattle.std.specs.Prelude.{◌≡◌, Some, IsTrue};
-ghost use Rattle.std.specs.Option.{option_copied};
 ghost use Rattle.vch_base.specs.declared.kind.Kind.TheVariants as kinds;
 ghost use Rattle.vch_model.specs.Lines.{is_task};
-ghost use Rattle.vch_machine.specs.Next.{nth_call};
 ghost use Rattle.vch_state.specs.Plain.{frame_of};
 ghost use Rattle.vch_state.specs.Reached.{Reached, Follows, value_kind};
 
@@ -10,16 +8,6 @@ use crate::Parts;
 use crate::forming::put_index;
 use crate::record::next_place;
 use crate::tally::count_refer;
-use vch_model::{Call, Scenario};
-
-fn call_of(scenario: &Scenario, task: u32, number: u32) -> Option<&Call>
-    ensures { option_copied result ≡ nth_call scenario.now task number }
-{
-    let _ = scenario;
-    let _ = task;
-    let _ = number;
-    None
-}
 
 /// Refer: the receipt that the frame has becomes a reference. Its index stands at the receipt's key of the voucher that the
 /// frame forms; what stood there is to be let go of, also where it is the same. The call is at its next record then.
@@ -37,7 +25,7 @@ pub fn refer(parts: &mut Parts, task: u32)
     let Some(taken) = frame.receipt.take() else {
         return;
     };
-    let Some(call) = call_of(&parts.scenario, task, begun) else {
+    let Some(call) = parts.scenario.call(task, begun) else {
         return;
     };
     let index = vch_value::refer(&mut parts.user_entries, taken.receipt);
