@@ -7,4 +7,5 @@ pub mod Stands
 pub mod Places
 pub mod Moves
 pub mod Reached
+pub mod Nexts
 pub mod Fresh

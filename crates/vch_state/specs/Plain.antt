@@ -5,6 +5,7 @@ use Rattle.vch_entry.specs.Entries.{Entries}
 use Rattle.vch_machine.specs.State.{Keyed, is_empty}
 use Rattle.vch_model.specs.declared.entry.Entry.{Entry}
 use Rattle.vch_table.specs.declared.table.Cell.{Cell}
+use Rattle.vch_ports.specs.Names.{Names}
 use Rattle.vch_ports.specs.declared.space.Named.{Named}
 use Rattle.vch_state.specs.declared.frame.Frame.{Frame}
 use Rattle.vch_state.specs.declared.frame.Claiming.{Claiming}
@@ -32,6 +33,13 @@ with_frame_of frames t f = slice_set frames (t - 1) (record (working_of frames t
 -- with one call more that a task has begun
 abbrev pub with_begun_of : List Working → ℕ → List Working
 with_begun_of frames t = slice_set frames (t - 1) (record (working_of frames t) { begun = begun_of frames t + 1 })
+
+-- a task without names, and the names of a task
+abbrev pub no_names : Names
+no_names = record { names = []; next = 1; spare = 0 }
+
+abbrev pub names_of : List Names → ℕ → Names
+names_of spaces t = slice_index_or spaces (t - 1) no_names
 
 -- nothing is claimed
 abbrev pub is_nothing : Claiming → Bool

@@ -1,4 +1,5 @@
 ghost use Rattle.std.specs.Prelude.{◌≡◌, ◌≤◌, ◌<◌, ◌-◌, ◌++◌, ◌∷◌, [], OnOk, OnErr, length};
+ghost use Rattle.vch_state.specs.Plain.{names_of};
 
 use std::alloc::Global;
 use std::marker::Model;
@@ -37,5 +38,13 @@ impl Spaces {
     {
         self.items.push(space)?;
         Ok(())
+    }
+
+    /// The names of a task.
+    pub fn at(&self, task: u32) -> &Space
+        requires task { (0 < task) × (task ≤ length self.now) }
+        ensures { result.now ≡ names_of self.now task }
+    {
+        &self.items[task as usize - 1]
     }
 }
