@@ -26,6 +26,7 @@ use Rattle.vch_state.specs.Shape.{IsTask, IsTable, Shape, referred_by}
 use Rattle.vch_state.specs.Pictures.{Both, both, picture_of, task_holds, part_expects, both_claimed}
 use Rattle.vch_state.specs.Bounds.{Limited, Spent, TaskSpent, calls_of, sum_tasks, in_all, rank_in, makes_in, open_in, references_in, unanswered_in}
 use Rattle.vch_state.specs.Stands.{StandsFor}
+use Rattle.vch_state.proofs.OfTasks.{of_tasks}
 use Rattle.vch_state.proofs.Sums.{sum_bounded}
 use Rattle.vch_state.specs.Reached.{plain_of, parts_in, part_in, IsState, IsEnd}
 
@@ -83,7 +84,7 @@ no_sum f h t [] = refl
 no_sum f h t (x ∷ flags) = let a : f t idle ≡ 0 = h t in let e : sum_tasks f (t + 1) (idles flags) ≡ 0 = no_sum f h (t + 1) flags in omega (arith, a, e)
 
 pub limited_of : (sc : Scenario) → IsLimited sc → Limited sc
-limited_of sc l = record { tasks = l.tasks; phases = l.phases; calls = omega (arith, l.calls) }
+limited_of sc l = record { tasks = l.tasks; phases = l.phases; calls = omega (arith, l.calls); lines = of_tasks (length sc.flags) sc.phases l.lines }
 
 module _ (sc : Scenario) (c : Plain) (limited : IsLimited sc)
     (tasks : c.tasks ≡ rests sc.flags) (table : c.table ≡ []) (history : c.history ≡ []) (phase : c.phase ≡ 0)

@@ -1,3 +1,4 @@
+pub mod OfTasks
 pub mod Boths
 pub mod Stable
 pub mod Maps

@@ -1,9 +1,11 @@
 -- How far a run can have come: what bounds the counts of a core.
-use Rattle.std.specs.Prelude.{◌≡◌, ℕ, ◌+◌, ◌-◌, ◌*◌, ◌≤◌, if◌then◌else◌, List, [], ◌∷◌, length, drop, slice_index_or, Option, Some, None, is_some}
+use Rattle.std.specs.Prelude.{◌≡◌, ℕ, ◌+◌, ◌-◌, ◌*◌, ◌<◌, ◌≤◌, if◌then◌else◌, List, [], ◌∷◌, length, drop, slice_index_or, Option, Some, None, is_some}
+use Rattle.std.specs.List.{AllByRecursion}
 use Rattle.vch_model.specs.Lines.{lines_of, phases_in}
 use Rattle.vch_model.specs.Scenarios.{line_count}
 use Rattle.vch_model.specs.declared.call.Call.{Call}
 use Rattle.vch_model.specs.declared.call.Call.TheVariants as calls
+use Rattle.vch_model.specs.declared.call.Line.{Line}
 use Rattle.vch_model.specs.declared.lists.Scenario.{Scenario}
 use Rattle.vch_machine.specs.State.{Handles, Frame, Named, Tasked, Machine, idle, is_empty}
 use Rattle.vch_machine.specs.Next.{nth_call}
@@ -13,11 +15,19 @@ use Rattle.vch_legal.specs.Facts.{bit}
 abbrev pub calls_of : Scenario → ℕ
 calls_of sc = line_count sc.phases
 
--- at most so many tasks, phases and calls
+-- each line is of one of so many tasks
+abbrev pub IsOfTask : ℕ → Line → Type 0
+IsOfTask tasks l = (0 < l.task) × (l.task ≤ tasks)
+
+abbrev pub AreOfTasks : ℕ → List (List Line) → Type 0
+AreOfTasks tasks phases = AllByRecursion (λ lines. AllByRecursion (IsOfTask tasks) lines) phases
+
+-- at most so many tasks, phases and calls, and each line is of a task
 pub record Limited (sc : Scenario) : Type 0 where
   pub tasks : length sc.flags ≤ 64
   pub phases : length sc.phases ≤ 1024
   pub calls : calls_of sc ≤ 1048576
+  pub lines : AreOfTasks (length sc.flags) sc.phases
 
 -- What a task has, may still do, and owes.
 
