@@ -7,3 +7,4 @@ pub mod Stands
 pub mod Moves
 pub mod Reached
 pub mod Fresh
+pub mod Lookups

@@ -1,4 +1,6 @@
 ghost use Rattle.std.specs.Prelude.{◌≡◌, ◌≤◌, ◌<◌, ◌-◌, ◌++◌, ◌∷◌, [], OnOk, OnErr, length};
+ghost use Rattle.vch_ports.specs.Names.{by_name, looked};
+ghost use Rattle.vch_state.specs.Lookups.{names_in};
 
 use std::alloc::Global;
 use std::marker::Model;
@@ -37,5 +39,14 @@ impl Spaces {
     {
         self.items.push(space)?;
         Ok(())
+    }
+
+    /// The slot of a name of a task, or nothing where the task has no such name. The time is linear in the number of its
+    /// names.
+    pub fn look(&self, task: u32, name: u32) -> Option<u32>
+        requires task { (0 < task) × (task ≤ length self.now) }
+        ensures { result ≡ looked (by_name (names_in self.now task) name) }
+    {
+        self.items[task as usize - 1].look(name)
     }
 }
