@@ -5,10 +5,13 @@ pub mod Maps
 pub mod Claims
 pub mod Expected
 pub mod Held
+pub mod Known
 pub mod Replaced
 pub mod Closing
 pub mod Sums
 pub mod Spending
+pub mod OnClaims
+pub mod Holders
 pub mod Keys
 pub mod Taking
 pub mod FrameParts
