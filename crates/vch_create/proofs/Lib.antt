@@ -1,1 +1,7 @@
+pub mod Items
+pub mod Own
+pub mod Quiet
+pub mod WorkDeeds
+pub mod WorkMaps
+pub mod WorkRecords
 pub mod WorkShares

@@ -12,7 +12,7 @@ use Rattle.vch_state.specs.Shape.{Indices, index_of}
 use Rattle.vch_state.specs.declared.frame.KeyIndex.{KeyIndex}
 use Rattle.vch_create.specs.declared.change.Deed.{Deed}
 use Rattle.vch_create.specs.declared.change.Deed.TheVariants as deeds
-use Rattle.vch_create.specs.Works.{Forming, Shares, one_more, Keeps, HeldAt, shared_at, Puts, Changes, MayShare, CanDo, becomes}
+use Rattle.vch_create.specs.Works.{Workspace, Shares, one_more, Keeps, HeldAt, shared_at, Puts, Changes, MayShare, CanDo, becomes}
 
 -- what a call for one index says, of an index that may be none
 pub keeps_of : (old new : Entries) (i : ℕ) → IsSome (entry_at old.slots i)
@@ -70,7 +70,7 @@ pub can_stay : (n : ℕ) (old new : Entries) (deed : Deed) → Stay old new → 
 can_stay n old new (deeds.Copy v) s m = λ k. may_stay n old new (index_of k v) s (m k)
 can_stay n old new (deeds.Remove v) s m = tt
 
-pub changes_stay : (old new : Forming) (k : Key) (x : Option (Option ℕ)) → Changes old k x new → Stay old.entries new.entries
+pub changes_stay : (old new : Workspace) (k : Key) (x : Option (Option ℕ)) → Changes old k x new → Stay old.entries new.entries
 changes_stay old new k None e = subst (λ f. Stay old.entries f.entries) (sym e) (stay_same old.entries)
 changes_stay old new k (Some i) e = shares_stay old.entries new.entries i e.shares
 

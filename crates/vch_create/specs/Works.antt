@@ -117,7 +117,7 @@ becomes (deeds.Remove None) map k = Some None
 becomes (deeds.Remove (Some v)) map k = if same_handle (index_of k v) (index_of k map) then Some None else None
 
 -- the entries, a map, and what is to be let go of
-pub record Forming : Type 0 where
+pub record Workspace : Type 0 where
   pub entries : Entries
   pub map : Indices
   pub lets : List KeyIndex
@@ -149,25 +149,25 @@ abbrev pub Keeps : Entries → Option ℕ → Entries → Type 0
 Keeps old i new = (p : Picture) (kept : Kept) → HeldAt (handle_in old i) p → picture.Stands p old kept → picture.Stands (shared_at (handle_in old i) p) new kept
 
 -- a key gets an index or none; what was there is to be let go of
-pub record Puts (old : Forming) (k : Key) (i : Option ℕ) (new : Forming) : Type 0 where
+pub record Puts (old : Workspace) (k : Key) (i : Option ℕ) (new : Workspace) : Type 0 where
   pub shares : Shares old.entries i new.entries
   pub keeps : Keeps old.entries i new.entries
   pub map : SetsIndex old.map new.map (number_of k) i
   pub keyed : IsKeyed new.map
   pub lets : new.lets ≡ old.lets ++ item k (index_of k old.map)
 
-abbrev pub Changes : Forming → Key → Option (Option ℕ) → Forming → Type 0
+abbrev pub Changes : Workspace → Key → Option (Option ℕ) → Workspace → Type 0
 Changes old k None new = new ≡ old
 Changes old k (Some i) new = Puts old k i new
 
 -- a key is changed, or all of them in rising order
-abbrev pub ChangesAt : Forming → AtKeys → Deed → Forming → Type 0
+abbrev pub ChangesAt : Workspace → AtKeys → Deed → Workspace → Type 0
 ChangesAt old (at.One k) deed new = Changes old k (becomes deed old.map k) new
 ChangesAt old at.All deed new =
-    (a b : Forming) × Changes old keys.Importance (becomes deed old.map keys.Importance) a
+    (a b : Workspace) × Changes old keys.Importance (becomes deed old.map keys.Importance) a
     × Changes a keys.Bank (becomes deed a.map keys.Bank) b × Changes b keys.User (becomes deed b.map keys.User) new
 
-abbrev pub ChangesBy : Forming → Option Change → Forming → Type 0
+abbrev pub ChangesBy : Workspace → Option Change → Workspace → Type 0
 ChangesBy old None new = new ≡ old
 ChangesBy old (Some x) new = ChangesAt old x.keys x.deed new
 
