@@ -1,3 +1,4 @@
 pub mod Formed
 pub mod Refusals
 pub mod Works
+pub mod Carried
