@@ -1,6 +1,10 @@
+pub mod OneTask
+pub mod RefusedFits
 pub mod Items
-pub mod Own
 pub mod Quiet
+pub mod Refused
+pub mod Own
+pub mod RefusedEvent
 pub mod WorkDeeds
 pub mod WorkMaps
 pub mod WorkRecords

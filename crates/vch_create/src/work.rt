@@ -1,8 +1,6 @@
 ghost use Rattle.std.specs.Prelude.{◌≡◌, None, Some, Ok, IsTrue};
-ghost use Rattle.std.specs.Option.{option_copied};
 ghost use Rattle.vch_base.specs.declared.kind.Kind.TheVariants as kinds;
 ghost use Rattle.vch_model.specs.Lines.{is_task};
-ghost use Rattle.vch_machine.specs.Next.{nth_call};
 ghost use Rattle.vch_state.specs.Plain.{frame_of};
 ghost use Rattle.vch_state.specs.Reached.{Reached, Follows, IsNext, value_kind};
 ghost use Rattle.vch_create.specs.Carried.{ReadsNext};
@@ -11,16 +9,8 @@ use crate::change::change_map;
 use crate::record::{Record, read_record};
 use crate::refuse::refuse;
 use vch_base::Code;
-use vch_model::{Call, Scenario};
+use vch_model::Call;
 use vch_state::Parts;
-
-/// A stub: the call of a task with a number.
-fn call_of(scenario: &Scenario, task: u32, number: u32) -> Option<&Call>
-    ensures { option_copied result ≡ nth_call scenario.now task number }
-{
-    let _ = scenario;
-    None
-}
 
 /// The record at the place of the task's create, or the code with which the call is refused.
 fn read(parts: &Parts, task: u32) -> Result<Record, Code>
@@ -31,7 +21,7 @@ fn read(parts: &Parts, task: u32) -> Result<Record, Code>
     ensures { ReadsNext parts.now task result }
 {
     let working = parts.frames.at(task);
-    match (&working.frame, call_of(&parts.scenario, task, working.begun)) {
+    match (&working.frame, parts.scenario.call(task, working.begun)) {
         (Some(frame), Some(Call::Create { bytes })) => {
             read_record(parts, task, bytes.as_slice(), frame.at)
         }

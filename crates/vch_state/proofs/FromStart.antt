@@ -1,5 +1,5 @@
 -- The parts of a new core stand for the state at the start.
-use Rattle.std.proofs.Common.{◌≡◌, ℕ, zero, suc, ◌+◌, ◌-◌, ◌*◌, ◌<◌, ◌≤◌, List, [], ◌∷◌, ◌++◌, refl, arith, sym, ap, ◌∙◌, subst, length, map, get_or, Option, Some, None}
+use Rattle.std.proofs.Common.{◌≡◌, ℕ, zero, suc, ◌+◌, ◌-◌, ◌≤◌, List, [], ◌∷◌, refl, arith, sym, ap, ◌∙◌, subst, length, map, get_or, Option}
 use Rattle.std.specs.List.{flat_map}
 use Rattle.vch_base.specs.declared.flags.Flags.{Flags}
 use Rattle.vch_base.specs.declared.key.Key.TheVariants as keys
@@ -19,12 +19,11 @@ use Rattle.vch_table.specs.declared.table.Cell.{Cell}
 use Rattle.vch_machine.specs.Next.{current, nth_call}
 use Rattle.vch_legal.proofs.Keeps.{start_keeps}
 use Rattle.vch_state.specs.declared.frames.Working.{Working}
-use Rattle.vch_state.specs.declared.parts.Parts.{Parts}
-use Rattle.vch_state.specs.Plain.{Plain, Part, idle_part, part_of, no_numbers, resting}
+use Rattle.vch_state.specs.Plain.{Plain, Part, idle_part, part_of, resting}
 use Rattle.vch_state.specs.Fresh.{AreFresh, all_resting}
-use Rattle.vch_state.specs.Shape.{IsTask, IsTable, Shape, referred_by}
-use Rattle.vch_state.specs.Pictures.{Both, both, picture_of, task_holds, part_expects, both_claimed}
-use Rattle.vch_state.specs.Bounds.{Limited, Spent, TaskSpent, calls_of, sum_tasks, in_all, rank_in, makes_in, open_in, references_in, unanswered_in}
+use Rattle.vch_state.specs.Shape.{IsTask, referred_by}
+use Rattle.vch_state.specs.Pictures.{both, picture_of, task_holds, part_expects, both_claimed}
+use Rattle.vch_state.specs.Bounds.{Limited, TaskSpent, sum_tasks, in_all, rank_in, makes_in, open_in, references_in, unanswered_in}
 use Rattle.vch_state.specs.Stands.{StandsFor}
 use Rattle.vch_state.proofs.OfTasks.{of_tasks}
 use Rattle.vch_state.proofs.Sums.{sum_bounded}
@@ -169,5 +168,8 @@ unfolding IsEnd
 at_start sc c s = ([], machine.start sc, refl, s)
 
 -- the same for a scenario that is equal
-pub moved_start : (a b : Scenario) (c : Plain) → a ≡ b → IsState a c (machine.start a) → IsState a c (machine.start b)
-moved_start a b c e s = subst (λ x. IsState a c (machine.start x)) e s
+pub moved_state : (a b : Scenario) (c : Plain) (m : Machine) → a ≡ b → IsState b c m → IsState a c m
+moved_state a b c m e s = subst (λ x. IsState x c m) (sym e) s
+
+pub moved_end : (a b : Scenario) (c : Plain) → a ≡ b → IsEnd b c → IsEnd a c
+moved_end a b c e s = subst (λ x. IsEnd x c) (sym e) s

@@ -1,4 +1,6 @@
 pub mod OfTasks
+pub mod Placing
+pub mod CallsFound
 pub mod Boths
 pub mod Stable
 pub mod Maps
@@ -12,9 +14,12 @@ pub mod Sums
 pub mod Spending
 pub mod OnClaims
 pub mod Holders
+pub mod Records
 pub mod Keys
 pub mod Taking
 pub mod FrameParts
+pub mod Referring
+pub mod Refers
 pub mod LetsGo
 pub mod Glue
 pub mod LetsGoEvent

@@ -1,6 +1,6 @@
-use crate::{Frames, MadeNumbers, Spaces, Tally};
+use crate::{Frames, MadeNumbers, Script, Spaces, Tally};
 use vch_entry::EntryTable;
-use vch_model::{History, Scenario};
+use vch_model::History;
 use vch_table::VoucherTable;
 use vch_user::UserManager;
 
@@ -9,7 +9,7 @@ use vch_user::UserManager;
 /// `phase` is the number of phases that have ended.
 #[derive(Drop)]
 pub struct Parts {
-    pub scenario: Scenario,
+    pub scenario: Script,
     pub phase: u32,
     pub frames: Frames,
     pub user: UserManager,

@@ -5,7 +5,7 @@ ghost use Rattle.vch_state.specs.Fresh.{AreFresh, all_resting};
 ghost use Rattle.vch_state.specs.Reached.{Stands};
 
 use crate::copy::copy_scenario;
-use crate::{Core, Frames, MadeNumbers, Parts, Spaces, Tally};
+use crate::{Core, Frames, MadeNumbers, Parts, Script, Spaces, Tally};
 use std::alloc::Global;
 use vch_base::NoMemory;
 use vch_entry::EntryTable;
@@ -62,13 +62,14 @@ impl Core {
         ensures stands { IfOk result (λ core. Stands core (machine.start scenario.now)) }
     {
         let own = copy_scenario(alloc, scenario)?;
-        let spaces = fresh_spaces(alloc, own.flags.len())?;
-        let frames = fresh_frames(alloc, own.flags.len())?;
+        let script = Script::new(alloc, own)?;
+        let spaces = fresh_spaces(alloc, scenario.flags.len())?;
+        let frames = fresh_frames(alloc, scenario.flags.len())?;
         let mut history = History::new(alloc);
-        history.reserve(count_calls(&own.phases) + own.phases.len())?;
+        history.reserve(count_calls(&scenario.phases) + scenario.phases.len())?;
         Ok(Core {
             parts: Parts {
-                scenario: own,
+                scenario: script,
                 phase: 0,
                 frames,
                 user: UserManager::new(alloc),

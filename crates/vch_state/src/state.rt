@@ -37,7 +37,7 @@ impl Core {
     pub fn scenario(&self) -> &Scenario
         ensures { result.now ≡ self.now.scenario }
     {
-        &self.parts.scenario
+        self.parts.scenario.scenario()
     }
 
     /// What happened so far, the oldest entry first.
@@ -58,7 +58,7 @@ impl Core {
     pub fn ended(&self) -> bool
         ensures { IsTrue result ↔ (length self.now.scenario.phases ≤ self.now.phase) }
     {
-        self.parts.scenario.phases.len() <= self.parts.phase as usize
+        self.parts.scenario.scenario().phases.len() <= self.parts.phase as usize
     }
 
     /// How many claims were taken, references and questions.
