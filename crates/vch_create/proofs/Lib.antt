@@ -7,5 +7,6 @@ pub mod Own
 pub mod RefusedEvent
 pub mod WorkDeeds
 pub mod WorkMaps
+pub mod WorkNext
 pub mod WorkRecords
 pub mod WorkShares
