@@ -10,3 +10,4 @@ pub mod WorkMaps
 pub mod WorkNext
 pub mod WorkRecords
 pub mod WorkShares
+pub mod WorkStands

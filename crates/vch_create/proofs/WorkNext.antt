@@ -2,6 +2,7 @@
 use Rattle.std.proofs.Common.{◌≡◌, ℕ, zero, suc, ◌+◌, ◌-◌, ◌<◌, ◌≤◌, ◌==◌, nat_lt, Bool, true, false, cond, List, [], ◌∷◌, refl, arith, sym, ap, ◌∙◌, length, drop, get_or, subst, Option, Some, None, IsTrue}
 use Rattle.std.specs.Prelude.{IsSome, is_some}
 use Rattle.std.proofs.lemmas.Grind.{common_steps}
+use Rattle.std.proofs.lemmas.List.{length-drop}
 use Rattle.vch_base.specs.Slots.{slot_at}
 use Rattle.vch_base.specs.declared.key.Key.{Key}
 use Rattle.vch_base.specs.declared.key.Key.TheVariants as keys
@@ -17,13 +18,13 @@ use Rattle.vch_model.specs.declared.call.Call.TheVariants as calls
 use Rattle.vch_machine.specs.State as machine
 use Rattle.vch_machine.specs.State.{Handles, Machine, Tasked, Place, tasked}
 use Rattle.vch_machine.specs.Naming.{handles_of}
-use Rattle.vch_machine.specs.Next.{current, first_next, call_next, frame_next, next_kind, task_next}
+use Rattle.vch_machine.specs.Next.{current, nth_call, first_next, call_next, frame_next, next_kind, task_next}
 use Rattle.vch_state.specs.declared.frame.Frame.{Frame}
 use Rattle.vch_state.specs.declared.frame.Claiming.{Claiming}
 use Rattle.vch_state.specs.declared.frames.Working.{Working}
 use Rattle.vch_state.specs.declared.parts.Parts.{Parts}
-use Rattle.vch_state.specs.Plain.{Plain, Part, SlotName, part_of, idle_part, frame_of}
-use Rattle.vch_state.specs.Shape.{Indices, Optional, Pairwise, IsFrame, IsReceipt, IsClaim, IsLet, IsMap, IsName, IsSlotOf, HasMap}
+use Rattle.vch_state.specs.Plain.{Plain, Part, SlotName, part_of, idle_part, frame_of, begun_of}
+use Rattle.vch_state.specs.Shape.{Indices, IsKeyed, Optional, Pairwise, IsFrame, IsReceipt, IsClaim, IsLet, IsMap, IsName, IsSlotOf, HasMap}
 use Rattle.vch_state.specs.Bounds.{Limited}
 use Rattle.vch_state.specs.Stands.{StandsFor}
 use Rattle.vch_state.specs.Lookups.{names_in, no_names}
@@ -31,6 +32,7 @@ use Rattle.vch_state.specs.Reached.{plain_of, parts_in, IsState, IsEnd, IsNext, 
 use Rattle.vch_state.proofs.Glue.{own_frame, in_parts, in_frames, twin_of}
 use Rattle.vch_create.specs.Formed.{is_forming}
 use Rattle.vch_create.specs.Works.{cell_indices, slot_indices, voucher_in, IsThere, NamesAreThere}
+use Rattle.vch_create.proofs.Own.{own_begun}
 use Rattle.vch_create.proofs.Quiet.{Forming, forming_of, quiet}
 
 -- a reached core, with the state that it stands for
@@ -199,3 +201,63 @@ module _ (p : Parts) (t : ℕ) (task : is_task p.scenario t ≡ true) where
         by_frame : (o : Option Frame) → frame_of p.frames t ≡ o → A
         by_frame None own = absurd (none_in (tasked m t).frame (subst (λ o. Optional (IsFrame (plain_of p) (current p.scenario m t)) o (tasked m t).frame) (own_frame p m t s task ∙ own) (s.shape.tasks t range.0 range.1).frame) kind)
         by_frame (Some f) own = twin_of p.scenario (keys.User ∷ []) (plain_of p) m t f A s task (own_frame p m t s task ∙ own) (λ g e r. by_forming f own g e r f.forming refl)
+
+    same_frame : (o : Option Frame) (a b : Frame) → o ≡ Some a → o ≡ Some b → b ≡ a
+    same_frame o a b x y = cc
+
+    same_bytes : (o : Option Call) (a b : List ℕ) → o ≡ Some (calls.Create a) → o ≡ Some (calls.Create b) → b ≡ a
+    same_bytes o a b x y = cc
+
+    begun_is : (m : Machine) → StandsFor p.scenario (keys.User ∷ []) (plain_of p) m → begun_of p.frames t ≡ (tasked m t).begun
+    begun_is m s =
+        let n : (0 < t) × (t - 1 < length (plain_of p).tasks) = in_parts p.scenario (keys.User ∷ []) (plain_of p) m t s task in
+        sym (own_begun p m t s task) ∙ (s.shape.tasks t n.0 n.1).begun
+
+    -- the same where the code has the frame and the bytes in hand
+    pub works_with : (m : Machine) (A : Type 0) → Stands p m → (f : Frame) (bytes : List ℕ) → frame_of p.frames t ≡ Some f → nth_call p.scenario t (begun_of p.frames t) ≡ Some (calls.Create bytes)
+        → ((v : Indices) (g : machine.Frame) (w : Handles) → Works m f v g w bytes → A) → A
+    works_with m A st f bytes own call h = works_seen m A st (λ f2 v g w bytes2 z.
+        by f2 bytes2 (same_frame (frame_of p.frames t) f f2 own z.own)
+        (same_bytes (current p.scenario m t) bytes bytes2 (ap (nth_call p.scenario t) (sym (begun_is m (state_of p m st).1)) ∙ call) z.both.create) v g w z)
+      where
+        by : (f2 : Frame) (bytes2 : List ℕ) → f2 ≡ f → bytes2 ≡ bytes → (v : Indices) (g : machine.Frame) (w : Handles) → Works m f2 v g w bytes2 → A
+        by f2 bytes2 e q v g w z = h v g w (subst (λ x. Works m x v g w bytes) e (subst (λ b. Works m f2 v g w b) q z))
+
+    some_left : (names : List machine.Named) (place : ℕ) (bytes : List ℕ) → first_next names (first_of (drop place bytes)) ≡ kinds.Work → place ≤ length bytes
+    some_left names place bytes e = by (length (drop place bytes) == 0) refl
+      where
+        not_placed : (k : Kind) → kinds.Place ≡ kinds.Work → ⊥
+        not_placed k e = cc
+
+        by : (b : Bool) → (length (drop place bytes) == 0) ≡ b → place ≤ length bytes
+        by true q = let z : first_of (drop place bytes) ≡ First.End = rw q refl in absurd (not_placed kinds.Place (sym (ap (first_next names) z) ∙ e))
+        by false q = let l : length (drop place bytes) ≡ length bytes - place = length-drop place bytes in let n : 0 < length (drop place bytes) = grind (arith, common_steps) in omega (arith, l, n)
+
+    pub inside : Reached p → (f : Frame) (bytes : List ℕ) → frame_of p.frames t ≡ Some f → nth_call p.scenario t (begun_of p.frames t) ≡ Some (calls.Create bytes) → f.at ≤ length bytes
+    inside r f bytes own call = reached_state p _ r (λ m st. works_with m _ st f bytes own call (λ v g w z.
+        let a : g.at_byte ≤ length bytes = some_left (tasked m t).names g.at_byte bytes z.first in
+        let b : f.at ≡ g.at_byte = z.frames.at_byte in
+        omega (arith, a, b)))
+
+    pub forms_there : Reached p → IsTrue (is_forming (frame_of p.frames t))
+    forms_there r = reached_state p _ r (λ m st. works_seen m _ st (λ f v g w bytes z. rw (z.own, z.forms) refl))
+
+    nothing_forms : (o : Option Frame) (f : Frame) (v : Indices) → o ≡ Some f → f.forming ≡ Some v → o ≡ None → ⊥
+    nothing_forms o f v a b e = absurd (cc)
+
+    pub some_frame : (A : Type 0) → Reached p → frame_of p.frames t ≡ None → A
+    some_frame A r e = absurd (reached_state p ⊥ r (λ m st. works_seen m ⊥ st (λ f v g w bytes z. nothing_forms (frame_of p.frames t) f v z.own z.forms e)))
+
+    no_forming : (o : Option Indices) (v : Indices) → o ≡ Some v → o ≡ None → ⊥
+    no_forming o v a e = absurd (cc)
+
+    pub some_map : (A : Type 0) (f : Frame) → Reached p → frame_of p.frames t ≡ Some f → f.forming ≡ None → A
+    some_map A f r own e = absurd (reached_state p ⊥ r (λ m st. works_seen m ⊥ st (λ f2 v g w bytes z.
+        no_forming f.forming v (ap (λ (x : Frame). x.forming) (sym (same_frame (frame_of p.frames t) f f2 own z.own)) ∙ z.forms) e)))
+
+    pub keyed_map : (f : Frame) (v : Indices) → Reached p → frame_of p.frames t ≡ Some f → f.forming ≡ Some v → IsKeyed v
+    keyed_map f v r own e = reached_state p _ r (λ m st. works_seen m _ st (λ f2 u g w bytes z.
+        subst IsKeyed (same_map f.forming v u e (ap (λ (x : Frame). x.forming) (sym (same_frame (frame_of p.frames t) f f2 own z.own)) ∙ z.forms)) z.both.map.1))
+      where
+        same_map : (o : Option Indices) (a b : Indices) → o ≡ Some a → o ≡ Some b → b ≡ a
+        same_map o a b x y = cc
