@@ -5,3 +5,13 @@ pub mod Quiet
 pub mod Refused
 pub mod Own
 pub mod RefusedEvent
+pub mod CallsUser
+pub mod Begun
+pub mod BeginMachine
+pub mod BeginEvent
+pub mod WorkDeeds
+pub mod WorkMaps
+pub mod WorkNext
+pub mod WorkRecords
+pub mod WorkShares
+pub mod WorkStands

@@ -24,6 +24,7 @@ pub mod LetsGo
 pub mod Glue
 pub mod NextKinds
 pub mod LetsGoEvent
+pub mod RefersEvent
 pub mod OneClaim
 pub mod Asks
 pub mod AsksEvent
