@@ -1,0 +1,11 @@
+pub mod OneTask
+pub mod RefusedFits
+pub mod Items
+pub mod Quiet
+pub mod Refused
+pub mod Own
+pub mod RefusedEvent
+pub mod CallsUser
+pub mod Begun
+pub mod BeginMachine
+pub mod BeginEvent

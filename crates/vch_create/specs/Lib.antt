@@ -1,1 +1,3 @@
+pub mod Begins
+pub mod Formed
 pub mod Refusals

@@ -1,5 +1,5 @@
 -- The parts of a core as plain data.
-use Rattle.std.specs.Prelude.{ℕ, ◌-◌, ◌||◌, not, if◌then◌else◌, Bool, true, false, List, [], ◌∷◌, Option, Some, None, is_some, slice_index_or, slice_set}
+use Rattle.std.specs.Prelude.{ℕ, ◌+◌, ◌-◌, ◌||◌, not, if◌then◌else◌, Bool, true, false, List, [], ◌∷◌, Option, Some, None, is_some, slice_index_or, slice_set}
 use Rattle.vch_base.specs.Managers.{Kept}
 use Rattle.vch_entry.specs.Entries.{Entries}
 use Rattle.vch_machine.specs.State.{Keyed, is_empty}
@@ -29,6 +29,10 @@ begun_of frames t = (working_of frames t).begun
 -- with another frame of a task, or none
 abbrev pub with_frame_of : List Working → ℕ → Option Frame → List Working
 with_frame_of frames t f = slice_set frames (t - 1) (record (working_of frames t) { frame = f })
+
+-- with one call more that a task has begun
+abbrev pub with_begun_of : List Working → ℕ → List Working
+with_begun_of frames t = slice_set frames (t - 1) (record (working_of frames t) { begun = begun_of frames t + 1 })
 
 -- a task without names, and the names of a task
 abbrev pub no_names : Names

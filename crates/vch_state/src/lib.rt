@@ -64,6 +64,7 @@ mod value;
 
 pub use frame::{Claiming, Frame, KeyIndex, KeyReceipt, Lets};
 pub use frames::{Frames, Working};
+pub use let_go::closed;
 pub use made::MadeNumbers;
 pub use parts::Parts;
 pub use script::Script;
