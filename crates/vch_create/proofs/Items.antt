@@ -18,7 +18,7 @@ pairwise_append r [] (u ∷ us) ys vs p q = absurd p
 pairwise_append r (x ∷ xs) [] ys vs p q = absurd p
 
 module _ (c : Plain) where
-  item_lets : (k : Key) (i h : Option ℕ) → Optional (IsIndexOf c k) i h → Pairwise (IsLet c) (item k i) (naming.item k h)
+  pub item_lets : (k : Key) (i h : Option ℕ) → Optional (IsIndexOf c k) i h → Pairwise (IsLet c) (item k i) (naming.item k h)
   item_lets k None None p = tt
   item_lets k (Some i) (Some h) p = ((refl, p), tt)
   item_lets k None (Some h) p = absurd p

@@ -9,3 +9,9 @@ pub mod CallsUser
 pub mod Begun
 pub mod BeginMachine
 pub mod BeginEvent
+pub mod WorkDeeds
+pub mod WorkMaps
+pub mod WorkNext
+pub mod WorkRecords
+pub mod WorkShares
+pub mod WorkStands

@@ -1,3 +1,5 @@
 pub mod Begins
 pub mod Formed
 pub mod Refusals
+pub mod Works
+pub mod Carried

@@ -12,7 +12,7 @@ use vch_state::{closed, KeyIndex, Lets, Parts};
 use vch_table::Indices;
 
 /// Appends the index that a map has at a key, if there is one.
-fn let_one_go(lets: &mut Lets, map: &Indices, key: Key)
+pub fn let_one_go(lets: &mut Lets, map: &Indices, key: Key)
     requires { length lets.old ≤ 11 }
     ensures { lets.new ≡ lets.old ++ item key (index_of key map.now) }
 {

@@ -41,6 +41,10 @@ no_names = record { names = []; next = 1; spare = 0 }
 abbrev pub names_of : List Names → ℕ → Names
 names_of spaces t = slice_index_or spaces (t - 1) no_names
 
+-- with other names of a task
+abbrev pub with_names_of : List Names → ℕ → Names → List Names
+with_names_of spaces t n = slice_set spaces (t - 1) n
+
 -- nothing is claimed
 abbrev pub is_nothing : Claiming → Bool
 is_nothing Claiming.Nothing = true
