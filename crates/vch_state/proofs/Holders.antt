@@ -1,7 +1,6 @@
 -- How many holders a picture has: seven for each frame at most, and one for each live slot of the table.
-use Rattle.std.proofs.Common.{◌≡◌, ℕ, zero, suc, ◌+◌, ◌*◌, ◌-◌, ◌<◌, ◌≤◌, Bool, true, false, cond, List, [], ◌∷◌, ◌++◌, refl, arith, sym, ap, ◌∙◌, length, get_or, subst, Option, Some, None, length-append}
+use Rattle.std.proofs.Common.{◌≡◌, ℕ, suc, ◌+◌, ◌*◌, ◌-◌, ◌≤◌, Bool, true, false, cond, List, [], ◌∷◌, ◌++◌, arith, length, get_or, subst, Option, Some, None, length-append}
 use Rattle.std.specs.List.{flat_map}
-use Rattle.std.proofs.lemmas.Grind.{common_steps}
 use Rattle.std.proofs.lemmas.List.Sums.{count_by-le-length, sum_by-cons}
 use Rattle.vch_base.specs.declared.key.Key.{Key}
 use Rattle.vch_base.specs.Managers.{count}
@@ -15,7 +14,7 @@ use Rattle.vch_legal.specs.Facts.{OptionFits}
 use Rattle.vch_state.specs.Plain.{Plain}
 use Rattle.vch_state.specs.Shape.{slots_of, index_of}
 use Rattle.vch_state.specs.Pictures.{picture_of, task_holds, cell_holds, frame_holds, forming_holds, let_holds, listed, translated, same_key}
-use Rattle.vch_state.specs.Bounds.{Limited, in_all, open_in, begun_in}
+use Rattle.vch_state.specs.Bounds.{Limited, in_all, begun_in}
 use Rattle.vch_state.specs.Stands.{StandsFor}
 use Rattle.vch_state.proofs.Spending.{begun_bound}
 

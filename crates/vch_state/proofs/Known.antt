@@ -1,16 +1,14 @@
 -- Each live slot of the table has a voucher of the state. So where each index that has a handle keeps it, the table holds
 -- what it held, also where new entries come.
-use Rattle.std.proofs.Common.{◌≡◌, ℕ, zero, suc, ◌+◌, ◌-◌, ◌<◌, ◌≤◌, ◌==◌, Bool, true, false, List, [], ◌∷◌, ◌++◌, refl, arith, sym, ap, ◌∙◌, length, get_or, subst, Option, Some, None}
+use Rattle.std.proofs.Common.{◌≡◌, ℕ, zero, suc, ◌+◌, ◌-◌, ◌<◌, ◌≤◌, ◌==◌, List, [], ◌∷◌, refl, arith, sym, ap, ◌∙◌, length, get_or, subst, Option, Some, None}
 use Rattle.std.specs.List.{flat_map}
 use Rattle.std.proofs.lemmas.Grind.{common_steps}
 use Rattle.vch_base.specs.declared.key.Key.{Key}
 use Rattle.vch_base.specs.Slots.{slot_at}
-use Rattle.vch_entry.specs.Entries.{handle_at}
 use Rattle.vch_table.specs.declared.table.Cell.{Cell}
 use Rattle.vch_table.specs.Vouchers.{references_of}
 use Rattle.vch_model.specs.declared.lists.Scenario.{Scenario}
-use Rattle.vch_machine.specs.State.{Handles, Named, Message, Machine, Tasked, tasked, of_key}
-use Rattle.vch_machine.specs.Next.{current}
+use Rattle.vch_machine.specs.State.{Handles, Named, Message, Machine, tasked, of_key}
 use Rattle.vch_state.specs.Plain.{Plain, Part, part_of, idle_part, SlotName, SlotMessage}
 use Rattle.vch_state.specs.Shape.{Shape, Pairwise, Optional, IsIndexOf, IsMap, IsSlotOf, HasMap, IsName, IsMessage, slots_of, index_of, named_by, queued_by, referred_by, is_slot, bit}
 use Rattle.vch_state.specs.Pictures.{cell_holds, listed, translated}

@@ -1,13 +1,12 @@
 -- All claims of the machine are changed alike, and keep their places and answers: the parts stand for what they stood for,
 -- and the claims of a picture are changed alike.
-use Rattle.std.proofs.Common.{◌≡◌, ℕ, ◌+◌, ◌-◌, ◌<◌, ◌≤◌, ◌==◌, ◌&&◌, not, Bool, true, false, cond, List, [], ◌∷◌, ◌++◌, refl, arith, sym, ap, ◌∙◌, length, map, get_or, subst, Option, Some, None}
+use Rattle.std.proofs.Common.{◌≡◌, ℕ, ◌+◌, ◌==◌, ◌&&◌, not, Bool, true, false, cond, List, [], ◌∷◌, refl, sym, ap, ◌∙◌, length, map, get_or, subst, Option, Some, None}
 use Rattle.std.specs.Prelude.{is_some}
 use Rattle.std.specs.List.{flat_map}
 use Rattle.std.proofs.Math.ListN.{get_or-map}
 use Rattle.std.proofs.lemmas.List.{length-map}
 use Rattle.vch_base.specs.declared.key.Key.{Key}
-use Rattle.vch_base.specs.Keys.{number_of}
-use Rattle.vch_value.specs.Picture.{Picture, Claimed, bring, race}
+use Rattle.vch_value.specs.Picture.{Claimed, bring, race}
 use Rattle.vch_model.specs.declared.call.Call.{Call}
 use Rattle.vch_model.specs.declared.lists.Scenario.{Scenario}
 use Rattle.vch_machine.specs.State as machine
@@ -18,10 +17,10 @@ use Rattle.vch_legal.proofs.TaskLists.{flat_map_map}
 use Rattle.vch_legal.proofs.SeenTasks.{claims_task}
 use Rattle.vch_state.specs.declared.frame.Frame.{Frame}
 use Rattle.vch_state.specs.declared.frame.Claiming.{Claiming}
-use Rattle.vch_state.specs.Plain.{Plain, Part, part_of, idle_part}
+use Rattle.vch_state.specs.Plain.{Plain, Part, part_of}
 use Rattle.vch_state.specs.Shape.{Shape, Optional, IsClaim, IsFrame, IsTask}
 use Rattle.vch_state.specs.Pictures.{Both, both, picture_of, task_holds, frame_holds, frame_claimed, claimed_of, both_claimed, claimed, sync_of, same_key}
-use Rattle.vch_state.specs.Bounds.{Spent, TaskSpent, rank, makes, open_of, flying_of, sum_tasks, in_all, rank_in, makes_in, begun_in, open_in, flying_in, references_in, unanswered_in}
+use Rattle.vch_state.specs.Bounds.{Spent, TaskSpent, rank, makes, open_of, flying_of, in_all, rank_in, makes_in, begun_in, open_in, flying_in, references_in, unanswered_in}
 use Rattle.vch_state.proofs.Sums.{sum_mapped}
 use Rattle.vch_state.proofs.Spending.{work_same, makes_same}
 

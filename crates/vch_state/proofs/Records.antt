@@ -1,14 +1,14 @@
 -- A record of user data that a create was at: what the place behind it is.
-use Rattle.std.proofs.Common.{◌≡◌, ℕ, ◌+◌, ◌-◌, ◌*◌, ◌<◌, ◌≤◌, ◌==◌, nat_lt, ◌&&◌, not, Bool, true, false, cond, List, [], ◌∷◌, refl, arith, sym, ap, ◌∙◌, length, take, drop, subst, Option, Some, None}
+use Rattle.std.proofs.Common.{◌≡◌, ℕ, ◌+◌, ◌-◌, ◌*◌, ◌≤◌, ◌==◌, nat_lt, cond, List, [], ◌∷◌, arith, sym, ap, ◌∙◌, length, take, drop, subst}
 use Rattle.std.proofs.lemmas.Grind.{common_steps}
 use Rattle.std.proofs.lemmas.List.{length-drop}
 use Rattle.vch_base.specs.declared.key.Key.{Key}
-use Rattle.vch_recipe.specs.Recipes.{First, One, End, HeaderCut, ContentCut, first_of, content_of, word_at}
+use Rattle.vch_recipe.specs.Recipes.{One, End, HeaderCut, ContentCut, first_of, content_of, word_at}
 use Rattle.vch_recipe.specs.declared.recipe.Recipe.{Recipe}
 use Rattle.vch_machine.specs.State.{is_empty}
 use Rattle.vch_legal.proofs.Creates.{behind}
 use Rattle.vch_legal.proofs.Forming.{rest_of}
-use Rattle.vch_state.specs.UserOnly.{AsksUserOnly, Begins}
+use Rattle.vch_state.specs.UserOnly.{AsksUserOnly}
 use Rattle.vch_state.proofs.Held.{cases_of}
 
 -- a whole record has a header

@@ -1,12 +1,10 @@
 -- Refer keeps all that the parts stand for.
-use Rattle.std.proofs.Common.{◌≡◌, ◌≢◌, ℕ, zero, suc, ◌+◌, ◌-◌, ◌*◌, ◌<◌, ◌≤◌, Bool, true, false, cond, List, [], ◌∷◌, ◌++◌, refl, arith, sym, ap, ◌∙◌, length, map, drop, append_assoc, subst, Option, Some, None}
-use Rattle.std.proofs.Math.ListN.{set}
+use Rattle.std.proofs.Common.{◌≡◌, ℕ, ◌+◌, ◌-◌, ◌<◌, ◌≤◌, List, [], ◌∷◌, ◌++◌, refl, arith, sym, ap, ◌∙◌, length, map, drop, subst, Option, Some, None}
 use Rattle.std.specs.List.{flat_map}
-use Rattle.std.proofs.lemmas.List.{length-map}
 use Rattle.vch_base.specs.declared.key.Key.{Key}
 use Rattle.vch_base.specs.Keys.{number_of}
-use Rattle.vch_base.specs.Managers.{Kept, count}
-use Rattle.vch_entry.specs.Entries.{Entries, entry_at, handle_at, made_of, Refers}
+use Rattle.vch_base.specs.Managers.{count}
+use Rattle.vch_entry.specs.Entries.{Entries, handle_at, Refers}
 use Rattle.vch_recipe.specs.Recipes.{One, first_of}
 use Rattle.vch_recipe.specs.declared.recipe.Recipe.{Recipe}
 use Rattle.vch_table.specs.Indices.{Bounded, SetsIndex}
@@ -14,31 +12,29 @@ use Rattle.vch_value.specs.declared.flight.Receipt.{Receipt}
 use Rattle.vch_value.specs.Picture as picture
 use Rattle.vch_value.specs.Picture.{Picture, Claimed, Alike, bring, claims_at, flags_at, referred_picture}
 use Rattle.vch_value.proofs.Rows.{stands_alike}
-use Rattle.vch_model.specs.declared.call.Call.{Call}
 use Rattle.vch_model.specs.declared.call.Call.TheVariants as calls
 use Rattle.vch_model.specs.declared.lists.Scenario.{Scenario}
 use Rattle.vch_machine.specs.State as machine
 use Rattle.vch_machine.specs.State.{of_key, with_key, Handles, Place, Machine, Tasked, tasked, is_empty}
 use Rattle.vch_machine.specs.Frames as frames
-use Rattle.vch_machine.specs.Making.{back_claim, on_claims, on_task, one_refer}
+use Rattle.vch_machine.specs.Making.{back_claim, on_claims, one_refer}
 use Rattle.vch_machine.specs.Naming.{item}
 use Rattle.vch_machine.specs.Next.{current, nth_call}
 use Rattle.vch_legal.specs.Facts.{Fits}
 use Rattle.vch_legal.proofs.SeenTasks.{claims_task}
 use Rattle.vch_state.specs.declared.frame.Frame.{Frame}
 use Rattle.vch_state.specs.declared.frame.Claiming.{Claiming}
-use Rattle.vch_state.specs.Plain.{Plain, Part, KeyParts, part_of, with_frame}
-use Rattle.vch_state.specs.Shape.{Indices, Shape, Pairwise, Optional, IsIndexOf, IsLet, IsMap, IsFrame, IsTask, slots_of, index_of}
-use Rattle.vch_state.specs.UserOnly.{AsksUserOnly}
-use Rattle.vch_state.specs.Pictures.{picture_of, frame_holds, forming_holds, let_holds, listed, receipts_of, frame_claimed, cell_holds, same_key}
+use Rattle.vch_state.specs.Plain.{Plain, KeyParts, part_of, with_frame}
+use Rattle.vch_state.specs.Shape.{Indices, Shape, Pairwise, Optional, IsIndexOf, IsLet, IsFrame, IsTask, index_of}
+use Rattle.vch_state.specs.Pictures.{picture_of, let_holds, listed}
 use Rattle.vch_state.specs.Bounds.{open_of}
 use Rattle.vch_state.specs.Stands.{StandsFor, KeyStands}
 use Rattle.vch_state.specs.Moves.{with_values, with_frame_at, let_at, one_referred}
-use Rattle.vch_state.proofs.Stable.{task_stays, frame_stays, map_stays}
+use Rattle.vch_state.proofs.Stable.{task_stays, map_stays}
 use Rattle.vch_state.proofs.Maps.{at_key, map_with}
 use Rattle.vch_state.proofs.Known.{cells_kept}
 use Rattle.vch_state.proofs.OnClaims.{back_keeps, back_shows, shape_on, picture_on, spent_on, begun_on, opens_on, unanswered_on}
-use Rattle.vch_state.proofs.Replaced.{picture_by, held_before, held_behind, receipts_before, receipts_behind, claims_before, claims_behind, picture_now, picture_then, shape_then, framed}
+use Rattle.vch_state.proofs.Replaced.{picture_by, held_before, held_behind, receipts_before, receipts_behind, picture_now, picture_then, shape_then, framed}
 use Rattle.vch_state.proofs.Spending.{Paid, paid_then, unanswered_then, begun_then, open_then}
 use Rattle.vch_state.proofs.Keys.{of_with, same_key_refl, each_key}
 use Rattle.vch_state.proofs.FrameParts.{frames_of}

@@ -1,12 +1,10 @@
 -- From what the calls of Refer promise to what the event does.
-use Rattle.std.proofs.Common.{◌≡◌, ℕ, zero, suc, ◌+◌, ◌-◌, ◌<◌, ◌≤◌, ◌==◌, Bool, true, false, List, [], ◌∷◌, ◌++◌, refl, arith, sym, ap, ◌∙◌, length, drop, get_or, subst, Option, Some, None}
-use Rattle.std.specs.Prelude.{is_some, IsSome, IfSome, ◌^◌}
+use Rattle.std.proofs.Common.{◌≡◌, ℕ, zero, suc, ◌+◌, ◌-◌, ◌<◌, ◌≤◌, Bool, true, false, List, [], ◌∷◌, ◌++◌, refl, arith, sym, ap, ◌∙◌, length, drop, get_or, subst, Option, Some, None}
+use Rattle.std.specs.Prelude.{is_some, IfSome, ◌^◌}
 use Rattle.std.proofs.Math.ListN.{set}
-use Rattle.vch_base.specs.declared.key.Key.{Key}
 use Rattle.vch_base.specs.declared.key.Key.TheVariants as keys
 use Rattle.vch_base.specs.declared.kind.Kind.TheVariants as kinds
 use Rattle.vch_base.specs.Managers.{Kept, count}
-use Rattle.vch_entry.specs.declared.table.Entry.{Entry}
 use Rattle.vch_entry.specs.Entries.{Entries, handle_at, entry_at, refs_of, made_of, IsApart, AreBelow, Refers}
 use Rattle.vch_recipe.specs.Recipes.{First, One, first_of}
 use Rattle.vch_recipe.specs.declared.recipe.Recipe.{Recipe}
@@ -17,11 +15,9 @@ use Rattle.vch_value.proofs.Entry.{entry_is}
 use Rattle.vch_model.specs.Lines.{is_task}
 use Rattle.vch_model.specs.declared.call.Call.{Call}
 use Rattle.vch_model.specs.declared.call.Call.TheVariants as calls
-use Rattle.vch_model.specs.declared.lists.Scenario.{Scenario}
 use Rattle.vch_ports.specs.Names.{Names}
 use Rattle.vch_machine.specs.State as machine
 use Rattle.vch_machine.specs.State.{Handles, Place, Machine, tasked}
-use Rattle.vch_machine.specs.Making.{do_refer}
 use Rattle.vch_machine.specs.Next.{current, next_kind, nth_call}
 use Rattle.vch_machine.specs.Working.{bytes_of, size_of}
 use Rattle.vch_machine.specs.Events.{event, event_of}
@@ -34,21 +30,21 @@ use Rattle.vch_state.specs.declared.frame.KeyReceipt.{KeyReceipt}
 use Rattle.vch_state.specs.declared.frames.Working.{Working}
 use Rattle.vch_state.specs.declared.parts.Parts.{Parts}
 use Rattle.vch_state.specs.declared.tally.Tally.{Tally}
-use Rattle.vch_state.specs.Plain.{Plain, Part, with_frame, idle_part, part_of, resting, frame_of, begun_of, with_frame_of}
-use Rattle.vch_state.specs.Shape.{Indices, Pairwise, Optional, IsIndexOf, IsMap, IsLet, IsClaim, IsReceipt, IsFrame, slots_of, index_of}
+use Rattle.vch_state.specs.Plain.{Plain, with_frame, idle_part, part_of, resting, frame_of, begun_of, with_frame_of}
+use Rattle.vch_state.specs.Shape.{Indices, Pairwise, Optional, IsMap, IsLet, IsClaim, IsReceipt, IsFrame, index_of}
 use Rattle.vch_state.specs.UserOnly.{TakesUser, IsUserRecord}
 use Rattle.vch_state.specs.Pictures.{picture_of}
 use Rattle.vch_state.specs.Bounds.{Limited}
 use Rattle.vch_state.specs.Stands.{StandsFor}
 use Rattle.vch_state.specs.Moves.{PutsIndex, let_at, one_referred}
-use Rattle.vch_state.specs.Reached.{plain_of, parts_in, part_in, IsState, IsEvent, Follows, Reached, value_kind}
+use Rattle.vch_state.specs.Reached.{plain_of, parts_in, IsState, IsEvent, Follows, Reached}
 use Rattle.vch_state.proofs.Replaced.{receipts_before, receipts_behind}
 use Rattle.vch_state.proofs.Glue.{put_taken, own_frame, in_parts, in_frames, twin_of, entry_of_handle, from_reached, event_is}
 use Rattle.vch_state.proofs.Spending.{refers_bound}
 use Rattle.vch_state.proofs.Holders.{holders_few}
 use Rattle.vch_state.proofs.Maps.{keyed_few}
 use Rattle.vch_state.proofs.Records.{record_inside}
-use Rattle.vch_state.proofs.Refers.{taking_frame, taking_machine, taken_frame, taken_machine, split, then_parts, then_machine, stands_after}
+use Rattle.vch_state.proofs.Refers.{taking_frame, taking_machine, taken_frame, split, then_parts, then_machine, stands_after}
 
 -- the calls that a task has begun
 

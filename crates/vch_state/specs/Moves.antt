@@ -1,5 +1,5 @@
 -- What the events do to the parts.
-use Rattle.std.specs.Prelude.{◌≡◌, ℕ, ◌+◌, ◌-◌, Bool, if◌then◌else◌, List, [], ◌∷◌, ◌++◌, Option, Some, None, slice_set}
+use Rattle.std.specs.Prelude.{◌≡◌, ℕ, ◌+◌, ◌-◌, Bool, if◌then◌else◌, List, [], ◌∷◌, ◌++◌, Option, Some, None}
 use Rattle.vch_base.specs.declared.key.Key.{Key}
 use Rattle.vch_base.specs.Keys.{number_of}
 use Rattle.vch_base.specs.Managers.{Kept}
@@ -13,7 +13,7 @@ use Rattle.vch_state.specs.declared.frame.Frame.{Frame}
 use Rattle.vch_state.specs.declared.frame.Claiming.{Claiming}
 use Rattle.vch_state.specs.declared.frame.KeyIndex.{KeyIndex}
 use Rattle.vch_state.specs.declared.tally.Tally.{Tally}
-use Rattle.vch_state.specs.Plain.{Plain, KeyParts, part_of, with_frame, with_part}
+use Rattle.vch_state.specs.Plain.{Plain, part_of, with_frame, with_part}
 use Rattle.vch_state.specs.Shape.{Indices, index_of}
 
 -- with other entries and another manager of a key
