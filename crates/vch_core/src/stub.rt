@@ -19,25 +19,3 @@ pub fn create_event(core: &mut Core, task: u32) -> Kind
     Kind::Begin
 }
 
-pub fn value_event(core: &mut Core, task: u32) -> Kind
-    requires task { IsTrue (is_task core.old.scenario task) }
-    requires next { IsSome (value_kind (frame_of core.old.frames task)) }
-    ensures kind { value_kind (frame_of core.old.frames task) ≡ Some result }
-    ensures event { Follows result task core.old core.new }
-{
-    Kind::Refer
-}
-
-pub fn has_value_event(core: &Core, task: u32) -> bool
-    requires task { IsTrue (is_task core.now.scenario task) }
-    ensures { result ≡ is_some (value_kind (frame_of core.now.frames task)) }
-{
-    false
-}
-
-pub fn next_phase(core: &mut Core)
-    requires more { core.old.phase < length core.old.scenario.phases }
-    requires rest { IsResting core.old }
-    ensures { Goes None core.old core.new }
-{
-}

@@ -7,6 +7,18 @@ use crate::Core;
 use vch_base::Kind;
 
 impl Core {
+    /// The kind of the task's next event where that is one of a value: Refer, Ask, Recheck or LetGo; else nothing. Constant
+    /// time.
+    pub fn value_kind(&self, task: u32) -> Option<Kind>
+        requires task { IsTrue (is_task self.now.scenario task) }
+        ensures { result ≡ value_kind (frame_of self.now.frames task) }
+    {
+        match &self.parts.frames.at(task).frame {
+            Some(frame) => frame.value_kind(),
+            None => None,
+        }
+    }
+
     /// The next event of a task whose frame has a receipt, a claim, or a reference to let go of: Refer, Ask, Recheck or
     /// LetGo. It answers which of them it was. The time is that of the event, and it takes no memory.
     pub fn value_event(&mut self, task: u32) -> Kind
@@ -15,10 +27,7 @@ impl Core {
         ensures kind { value_kind (frame_of self.old.frames task) ≡ Some result }
         ensures event { Follows result task self.old self.new }
     {
-        let kind = match &self.parts.frames.at(task).frame {
-            Some(frame) => frame.value_kind(),
-            None => None,
-        };
+        let kind = self.value_kind(task);
         match kind {
             Some(Kind::Refer) => self.refer_event(task),
             Some(Kind::Ask) => self.ask_event(task),
