@@ -4,7 +4,7 @@ ghost use Rattle.vch_state.specs.Reached.{MayFollow};
 ghost use Rattle.vch_state.specs.UserOnly.{IsUserOnly};
 ghost use Rattle.vch_core.specs.Steps.{HasNext, IsFrameNext, Steps};
 
-use crate::stub::{create_event, has_value_event, value_event};
+use crate::stub::create_event;
 use vch_base::Kind;
 use vch_state::Core;
 
@@ -27,8 +27,8 @@ pub fn event(core: &mut Core, task: u32) -> Kind
     requires next { HasNext core.old task }
     ensures { MayFollow result task core.old core.new }
 {
-    if has_value_event(core, task) {
-        value_event(core, task)
+    if core.value_kind(task).is_some() {
+        core.value_event(task)
     } else {
         create_event(core, task)
     }

@@ -5,7 +5,6 @@ ghost use Rattle.vch_state.specs.UserOnly.{IsUserOnly};
 ghost use Rattle.vch_core.specs.Turning.{IsTurn, IsCursor, IsPassed, CanGo, Goes, Turns, IsLowest, OfFrame, IsWaiting, AreOfTasks, lines_of_task};
 
 use crate::stepped::event;
-use crate::stub::next_phase;
 use vch_model::LineList;
 use vch_state::Core;
 
@@ -110,11 +109,14 @@ pub fn go(core: &mut Core, choice: Option<u32>)
     requires can { CanGo core.old choice }
     ensures { Goes choice core.old core.new }
 {
+    core.know();
     match choice {
         Some(task) => {
             event(core, task);
         }
-        None => next_phase(core),
+        None => {
+            core.next_phase();
+        }
     }
 }
 
