@@ -68,7 +68,7 @@ frame_same p m t s task =
     optional_same (plain_of p) (current p.scenario m t) (part_of (plain_of p) t).frame (tasked m t).frame (s.shape.tasks t n.0 n.1).frame
     ∙ ap is_some (own_frame p m t s task)
 
-is_there : (o : Option Frame) → IsSome o → is_some o ≡ true
+pub is_there : (o : Option Frame) → IsSome o → is_some o ≡ true
 is_there None e = cc
 is_there (Some f) e = refl
 

@@ -5,3 +5,4 @@ pub mod Lowest
 pub mod Going
 pub mod Waiting
 pub mod Starting
+pub mod Turned

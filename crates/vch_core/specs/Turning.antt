@@ -52,6 +52,11 @@ abbrev pub OfFrame : Parts → Option ℕ → Type 0
 OfFrame p None = Unit {0}
 OfFrame p (Some t) = (is_task p.scenario t ≡ true) × IsSome (frame_of p.frames t)
 
+-- a task of the scenario, or none
+abbrev pub IsTaskOrNone : Parts → Option ℕ → Type 0
+IsTaskOrNone p None = Unit {0}
+IsTaskOrNone p (Some t) = is_task p.scenario t ≡ true
+
 -- the task of the first line of the phase that was not begun
 unfoldable pub IsWaiting : Parts → Option ℕ → Type 0
 IsWaiting p choice = (m : Machine) → Stands p m → first_waiting p.scenario m [] (slice_index_or p.scenario.phases (phases_in m.past) []) ≡ choice
@@ -86,14 +91,17 @@ AreBegun sc phase frames seen (l ∷ lines) =
     (lines_before sc phase seen l.task < begun_of frames l.task) × AreBegun sc phase frames (l.task ∷ seen) lines
 
 -- the lines before the cursor were begun, and it has the number of each task's lines before it
-pub record IsCursor (p : Parts) (cursor : Cursor) : Type 0 where
+pub record CursorAt (sc : Scenario) (phase : ℕ) (frames : List Working) (cursor : Cursor) : Type 0 where
   pub passed_lines : List Line
   pub rest : List Line
-  pub lines : current_lines p ≡ passed_lines ++ rest
+  pub lines : slice_index_or sc.phases phase [] ≡ passed_lines ++ rest
   pub line : cursor.line ≡ length passed_lines
-  pub begun : AreBegun p.scenario p.phase p.frames [] passed_lines
+  pub begun : AreBegun sc phase frames [] passed_lines
   pub long : length cursor.passed ≡ 64
-  pub passed : (t : ℕ) → is_task p.scenario t ≡ true → slice_index_or cursor.passed (t - 1) 0 ≡ lines_before p.scenario p.phase (seen_after [] passed_lines) t
+  pub passed : (t : ℕ) → is_task sc t ≡ true → slice_index_or cursor.passed (t - 1) 0 ≡ lines_before sc phase (seen_after [] passed_lines) t
+
+abbrev pub IsCursor : Parts → Cursor → Type 0
+IsCursor p cursor = CursorAt p.scenario p.phase p.frames cursor
 
 -- the cursor of the state in which all lines of the phase were begun
 abbrev pub IsPassed : Parts → Option ℕ → Cursor → Type 0

@@ -2,7 +2,7 @@ ghost use Rattle.std.specs.Prelude.{◌≡◌, ◌<◌, ◌≤◌, ◌+◌, ◌-
 ghost use Rattle.vch_model.specs.Lines.{is_task, lines_until};
 ghost use Rattle.vch_state.specs.Reached.{Reached};
 ghost use Rattle.vch_state.specs.UserOnly.{IsUserOnly};
-ghost use Rattle.vch_core.specs.Turning.{IsTurn, IsCursor, IsPassed, CanGo, Goes, Turns, IsLowest, OfFrame, IsWaiting, AreOfTasks, lines_of_task};
+ghost use Rattle.vch_core.specs.Turning.{IsTurn, IsCursor, IsPassed, CanGo, Goes, Turns, IsLowest, OfFrame, IsTaskOrNone, IsWaiting, AreOfTasks, lines_of_task};
 
 use crate::stepped::event;
 use vch_model::LineList;
@@ -69,6 +69,7 @@ fn next_line(core: &Core, cursor: &mut Cursor) -> Option<u32>
     requires more { core.now.phase < length core.now.scenario.phases }
     requires cursor { IsCursor core.now cursor.old }
     ensures waiting { IsWaiting core.now result }
+    ensures task { IsTaskOrNone core.now result }
     ensures cursor { IsCursor core.now cursor.new }
     ensures passed { IsPassed core.now result cursor.new }
 {

@@ -65,3 +65,9 @@ returns-clause-passed c =
     let l = c.loop-cursor-test.false in
     let d = within c.args.core.now c.loop-cursor.cursor c.loop-cursor.invariant in
     omega (arith, a, b, l, d)
+
+pub returns-then-cursor-seat-clause-task : goal.returns-then-cursor-seat-clause-task
+returns-then-cursor-seat-clause-task c =
+    let o = line_of_task c.args.core.now c.loop-cursor.cursor.line c.at.result.now c.know.ensures
+        (found c.args.core.now c.scenario.result.now c.phase.result c.at-lines.result.now c.loop-cursor.cursor.line c.at.result.now c.scenario.ensures c.phase.ensures c.at-lines.ensures c.at.ensures) in
+    o.task
