@@ -6,3 +6,5 @@ pub mod Going
 pub mod Waiting
 pub mod Starting
 pub mod Turned
+pub mod Advancing
+pub mod Ending

@@ -108,6 +108,11 @@ abbrev pub IsPassed : Parts → Option ℕ → Cursor → Type 0
 IsPassed p None cursor = cursor.line ≡ length (current_lines p)
 IsPassed p (Some t) cursor = Unit {0}
 
+-- the cursor after a move: at the first line again where the phase ends
+abbrev pub rewound : Option ℕ → Cursor → Cursor
+rewound None cursor = record cursor { line = 0 }
+rewound (Some t) cursor = cursor
+
 -- the move in turn was made
 pub record Turns (old new : Parts) : Type 0 where
   pub choice : Option ℕ

@@ -2,7 +2,7 @@ ghost use Rattle.std.specs.Prelude.{◌≡◌, ◌<◌, ◌≤◌, ◌+◌, ◌-
 ghost use Rattle.vch_model.specs.Lines.{is_task, lines_until};
 ghost use Rattle.vch_state.specs.Reached.{Reached};
 ghost use Rattle.vch_state.specs.UserOnly.{IsUserOnly};
-ghost use Rattle.vch_core.specs.Turning.{IsTurn, IsCursor, IsPassed, CanGo, Goes, Turns, IsLowest, OfFrame, IsTaskOrNone, IsWaiting, AreOfTasks, lines_of_task};
+ghost use Rattle.vch_core.specs.Turning.{IsTurn, IsCursor, IsPassed, CanGo, Goes, Turns, rewound, IsLowest, OfFrame, IsTaskOrNone, IsWaiting, AreOfTasks, lines_of_task};
 
 use crate::stepped::event;
 use vch_model::LineList;
@@ -121,6 +121,15 @@ pub fn go(core: &mut Core, choice: Option<u32>)
     }
 }
 
+/// The cursor goes back to the first line where the phase ends.
+fn rewind(cursor: &mut Cursor, choice: Option<u32>)
+    ensures { cursor.new ≡ rewound choice cursor.old }
+{
+    if choice.is_none() {
+        cursor.line = 0;
+    }
+}
+
 /// One move in turn.
 pub fn turn(core: &mut Core, cursor: &mut Cursor)
     requires built { IsUserOnly core.old.scenario }
@@ -131,8 +140,6 @@ pub fn turn(core: &mut Core, cursor: &mut Cursor)
 {
     core.know();
     let choice = next_turn(core, cursor);
-    if choice.is_none() {
-        cursor.line = 0;
-    }
     go(core, choice);
+    rewind(cursor, choice);
 }

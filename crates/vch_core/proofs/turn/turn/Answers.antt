@@ -1,10 +1,9 @@
-use Rattle.std.proofs.Common.{rules, ◌≡◌, ◌<◌, ◌≤◌, ◌+◌, ◌-◌, ◌^◌, ◌∷◌, [], ℕ, length, replicate, slice_index_or, Some, None, IsTrue, true, ◌*◌, ◌/◌, ◌%◌, Bool, false, nat_eq, nat_lt, List, ◌++◌, slice_set, bit_and, bit_or, Fits, w8, w32, w64, Bor, MutBor}
-use Rattle.vch_model.specs.Lines.{is_task, lines_until}
-use Rattle.vch_state.specs.Reached.{Reached}
-use Rattle.vch_state.specs.UserOnly.{IsUserOnly}
-use Rattle.vch_core.specs.Turning.{IsTurn, IsCursor, IsPassed, CanGo, Goes, Turns, IsLowest, OfFrame, IsTaskOrNone, IsWaiting, AreOfTasks, lines_of_task}
+use Rattle.std.proofs.Common.{sym, subst}
+use Rattle.vch_core.specs.Turning.{IsCursor}
+use Rattle.vch_core.proofs.Advancing.{cursor_after}
 use Rattle.vch_core.proofs.turn.turn.Goals as goal
 
--- src/turn.rt:125:1
 pub returns-clause-cursor : goal.returns-clause-cursor
-returns-clause-cursor c = ?
+returns-clause-cursor c =
+    subst (IsCursor c.go.new.core) (sym c.rewind.ensures)
+    (cursor_after c.args.core.now c.go.new.core c.next_turn-choice.result c.next_turn-choice.new.cursor c.know.ensures c.next_turn-choice.ensures.cursor c.next_turn-choice.ensures.passed c.go.ensures)
