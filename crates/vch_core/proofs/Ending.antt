@@ -111,7 +111,7 @@ unfolding in_turn
 turn_moves sc n want wants m k choice over turn e =
     let a : move_of (and_at n want wants) n (turn_task sc m (lowest_open m (all_of sc))) ≡ choice_move want choice =
         ap (move_of (and_at n want wants) n) turn ∙ same_move (and_at n want wants) (λ _. want) n 0 choice (at_own n want wants) in
-    rw (over, a, e) (ap (λ rest. run sc rest (Some k)) (turn_same n (and_at n want wants) wants sc (Some k) (λ i l. at_below n i want wants l)))
+    rw (over, a, e) (one_move sc (choice_move want choice) (in_turn n (and_at n want wants) sc (Some k)) m k e ∙ ap (λ rest. run sc rest (Some k)) (turn_same n (and_at n want wants) wants sc (Some k) (λ i l. at_below n i want wants l)))
 
 seed_moves : (sc : Scenario) (n s next : ℕ) (want : Bool) (wants : ℕ → Bool) (m k : Machine) (choice : Option ℕ) → has_ended sc m ≡ false
     → picked (ready sc m (all_of sc)) next ≡ choice → seed_after (ready sc m (all_of sc)) s ≡ next
@@ -120,7 +120,7 @@ unfolding by_seed
 seed_moves sc n s next want wants m k choice over turn after e =
     let a : move_of (and_at n want wants) n (picked (ready sc m (all_of sc)) next) ≡ choice_move want choice =
         ap (move_of (and_at n want wants) n) turn ∙ same_move (and_at n want wants) (λ _. want) n 0 choice (at_own n want wants) in
-    rw (over, after, a, e) (ap (λ rest. run sc rest (Some k)) (seed_same n next (and_at n want wants) wants sc (Some k) (λ i l. at_below n i want wants l)))
+    rw (over, after, a, e) (one_move sc (choice_move want choice) (by_seed n next (and_at n want wants) sc (Some k)) m k e ∙ ap (λ rest. run sc rest (Some k)) (seed_same n next (and_at n want wants) wants sc (Some k) (λ i l. at_below n i want wants l)))
 
 -- Of parts.
 

@@ -144,3 +144,6 @@ begun_same p m t s task =
     parts_begun (s ∷ ss) [] i l = absurd (omega arith)
     parts_begun (s ∷ ss) (x ∷ fs) zero l = refl
     parts_begun (s ∷ ss) (x ∷ fs) (suc i) l = parts_begun ss fs i (omega arith)
+
+pub when_ended : (a b : ℕ) (c : Bool) → IsTrue c ↔ (a ≤ b) → c ≡ true → a ≤ b
+when_ended a b c i e = i.0 (to_true c e)

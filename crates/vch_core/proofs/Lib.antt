@@ -8,3 +8,4 @@ pub mod Starting
 pub mod Turned
 pub mod Advancing
 pub mod Ending
+pub mod Finishing
