@@ -61,13 +61,13 @@ never_spent p count l s = let a = s.few in omega (arith, a, l)
 -- What is wanted.
 
 -- memory is wanted at one move more
-abbrev and_at : ℕ → Bool → (ℕ → Bool) → ℕ → Bool
+abbrev pub and_at : ℕ → Bool → (ℕ → Bool) → ℕ → Bool
 and_at n want wants i = if i == n then want else wants i
 
-at_own : (n : ℕ) (want : Bool) (wants : ℕ → Bool) → and_at n want wants n ≡ want
+pub at_own : (n : ℕ) (want : Bool) (wants : ℕ → Bool) → and_at n want wants n ≡ want
 at_own n want wants = let e : (n == n) ≡ true = grind (arith, common_steps) in rw e refl
 
-at_below : (n i : ℕ) (want : Bool) (wants : ℕ → Bool) → i < n → and_at n want wants i ≡ wants i
+pub at_below : (n i : ℕ) (want : Bool) (wants : ℕ → Bool) → i < n → and_at n want wants i ≡ wants i
 at_below n i want wants l = let e : (i == n) ≡ false = grind (arith, common_steps) in rw e refl
 
 same_move : (v w : ℕ → Bool) (n k : ℕ) (choice : Option ℕ) → v n ≡ w k → move_of v n choice ≡ move_of w k choice
@@ -96,7 +96,7 @@ seed_same (suc n) s v w sc (Some m) h =
 
 -- One move, and what follows.
 
-not_over : (p : Parts) (m : Machine) → Stands p m → p.phase < length p.scenario.phases → has_ended p.scenario m ≡ false
+pub not_over : (p : Parts) (m : Machine) → Stands p m → p.phase < length p.scenario.phases → has_ended p.scenario m ≡ false
 not_over p m s l =
     let e : p.phase ≡ phases_in m.past = same_phase p m s in
     let t : nat_lt (phases_in m.past) (length p.scenario.phases) ≡ true = grind (arith, common_steps) in

@@ -9,3 +9,5 @@ pub mod Turned
 pub mod Advancing
 pub mod Ending
 pub mod Finishing
+pub mod Drawing
+pub mod Driving

@@ -23,6 +23,10 @@ all_of sc = numbers (length sc.flags)
 unfoldable pub IsTurn : Parts → Option ℕ → Type 0
 IsTurn p choice = (m : Machine) → Stands p m → turn_task p.scenario m (lowest_open m (all_of p.scenario)) ≡ choice
 
+-- the tasks that have a next event, in every state that the parts stand for
+unfoldable pub AreReady : Parts → List ℕ → Type 0
+AreReady p tasks = (m : Machine) → Stands p m → ready p.scenario m (all_of p.scenario) ≡ tasks
+
 -- whom the seed chooses, and the seed after that
 unfoldable pub IsDraw : Parts → ℕ → Option ℕ → ℕ → Type 0
 IsDraw p seed choice next =

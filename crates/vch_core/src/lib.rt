@@ -2,9 +2,13 @@
 #![tactic(auto)]
 
 mod ends;
+mod order;
+mod seed;
 mod stepped;
 mod stub;
 mod turn;
 
 pub use ends::finish;
+pub use order::drive;
+pub use seed::drive_seed;
 pub use stepped::{Stepped, step};
