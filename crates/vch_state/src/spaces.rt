@@ -1,6 +1,6 @@
 ghost use Rattle.std.specs.Prelude.{◌≡◌, ◌≤◌, ◌<◌, ◌+◌, ◌-◌, ◌++◌, ◌∷◌, [], OnOk, OnErr, length};
 ghost use Rattle.vch_ports.specs.Names.{Adds, AllReferencesBelow, GivesUp, by_name, looked};
-ghost use Rattle.vch_state.specs.Lookups.{names_in};
+ghost use Rattle.vch_state.specs.Lookups.{AllSpaced, names_in};
 ghost use Rattle.vch_state.specs.Plain.{names_of, with_names_of};
 
 use std::alloc::Global;
@@ -17,10 +17,13 @@ pub struct Spaces {
 impl Model for Spaces {
     ghost use Rattle.std.specs.Prelude.{List};
     ghost use Rattle.vch_ports.specs.Names.{Names};
+    ghost use Rattle.vch_state.specs.Lookups.{AllSpaced};
 
     ghost Value = { List Names };
 
     ghost view = { λ s. s.items.items };
+
+    ghost invariant = { λ s. AllSpaced s.items.items };
 }
 
 impl Spaces {
@@ -38,8 +41,16 @@ impl Spaces {
         ensures ok { OnOk result (self.new ≡ self.old ++ space ∷ []) }
         ensures err { OnErr result (self.new ≡ self.old) }
     {
+        space.know();
         self.items.push(space)?;
         Ok(())
+    }
+
+    /// The names of every task are different and so are their slots, and each has a user reference. It does nothing.
+    pub fn know(&self)
+        ensures { AllSpaced self.now }
+    {
+        let _ = &self.items;
     }
 
     /// The names of a task.
@@ -67,7 +78,10 @@ impl Spaces {
         ensures next { (names_of self.new task).next ≡ (names_of self.old task).next }
         ensures others { self.new ≡ with_names_of self.old task (names_of self.new task) }
     {
-        self.items[task as usize - 1].reserve()
+        let space = &mut self.items[task as usize - 1];
+        let answer = space.reserve();
+        space.know();
+        answer
     }
 
     /// Gives a task a voucher by its slot. It takes no memory, since [`Spaces::reserve`] made room.
@@ -79,7 +93,10 @@ impl Spaces {
         ensures adds { Adds (names_of self.old task) slot result (names_of self.new task) }
         ensures others { self.new ≡ with_names_of self.old task (names_of self.new task) }
     {
-        self.items[task as usize - 1].add(slot)
+        let space = &mut self.items[task as usize - 1];
+        let answer = space.add(slot);
+        space.know();
+        answer
     }
 
     /// Takes one user reference from a name of a task; the name goes with the last.
@@ -89,6 +106,9 @@ impl Spaces {
         ensures next { (names_of self.new task).next ≡ (names_of self.old task).next }
         ensures others { self.new ≡ with_names_of self.old task (names_of self.new task) }
     {
-        self.items[task as usize - 1].give_up(name)
+        let space = &mut self.items[task as usize - 1];
+        let answer = space.give_up(name);
+        space.know();
+        answer
     }
 }
