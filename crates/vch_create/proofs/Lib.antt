@@ -15,3 +15,7 @@ pub mod WorkNext
 pub mod WorkRecords
 pub mod WorkShares
 pub mod WorkStands
+pub mod Giving
+pub mod Slots
+pub mod Vouchers
+pub mod NameLists
