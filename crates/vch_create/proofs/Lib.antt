@@ -19,3 +19,6 @@ pub mod Giving
 pub mod Slots
 pub mod Vouchers
 pub mod NameLists
+pub mod Tables
+pub mod Kept
+pub mod Placed
