@@ -22,3 +22,4 @@ pub mod NameLists
 pub mod Tables
 pub mod Kept
 pub mod Placed
+pub mod References
