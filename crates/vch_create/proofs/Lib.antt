@@ -23,3 +23,4 @@ pub mod Tables
 pub mod Kept
 pub mod Placed
 pub mod References
+pub mod PlaceEvent
