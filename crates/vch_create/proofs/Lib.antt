@@ -11,3 +11,4 @@ pub mod WorkNext
 pub mod WorkRecords
 pub mod WorkShares
 pub mod WorkStands
+pub mod WorkShared

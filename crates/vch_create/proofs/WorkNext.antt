@@ -255,9 +255,21 @@ module _ (p : Parts) (t : ℕ) (task : is_task p.scenario t ≡ true) where
     some_map A f r own e = absurd (reached_state p ⊥ r (λ m st. works_seen m ⊥ st (λ f2 v g w bytes z.
         no_forming f.forming v (ap (λ (x : Frame). x.forming) (sym (same_frame (frame_of p.frames t) f f2 own z.own)) ∙ z.forms) e)))
 
+    same_map : (o : Option Indices) (a b : Indices) → o ≡ Some a → o ≡ Some b → b ≡ a
+    same_map o a b x y = cc
+
     pub keyed_map : (f : Frame) (v : Indices) → Reached p → frame_of p.frames t ≡ Some f → f.forming ≡ Some v → IsKeyed v
     keyed_map f v r own e = reached_state p _ r (λ m st. works_seen m _ st (λ f2 u g w bytes z.
         subst IsKeyed (same_map f.forming v u e (ap (λ (x : Frame). x.forming) (sym (same_frame (frame_of p.frames t) f f2 own z.own)) ∙ z.forms)) z.both.map.1))
+    -- the same where the code has the frame and its map in hand
+    pub works_at : (m : Machine) (A : Type 0) → Stands p m → (f : Frame) (v : Indices) → frame_of p.frames t ≡ Some f → f.forming ≡ Some v → ((g : machine.Frame) (w : Handles) (bytes : List ℕ) → Works m f v g w bytes → A) → A
+    works_at m A st f v own forms h = works_seen m A st (λ f2 v2 g w bytes z.
+        let e : f2 ≡ f = same_frame (frame_of p.frames t) f f2 own z.own in
+        by f2 v2 e (same_map f.forming v v2 forms (ap (λ (x : Frame). x.forming) (sym e) ∙ z.forms)) g w bytes z)
       where
-        same_map : (o : Option Indices) (a b : Indices) → o ≡ Some a → o ≡ Some b → b ≡ a
-        same_map o a b x y = cc
+        by : (f2 : Frame) (v2 : Indices) → f2 ≡ f → v2 ≡ v → (g : machine.Frame) (w : Handles) (bytes : List ℕ) → Works m f2 v2 g w bytes → A
+        by f2 v2 e q g w bytes z = h g w bytes (subst (λ x. Works m x v g w bytes) e (subst (λ u. Works m f2 u g w bytes) q z))
+
+    -- the call in hand of the code is the machine's
+    pub call_is : (m : Machine) (f : Frame) (v : Indices) (g : machine.Frame) (w : Handles) (bytes : List ℕ) → Stands p m → Works m f v g w bytes → nth_call p.scenario t (begun_of p.frames t) ≡ Some (calls.Create bytes)
+    call_is m f v g w bytes st z = ap (nth_call p.scenario t) (begun_is m (state_of p m st).1) ∙ z.both.create

@@ -71,7 +71,7 @@ module _ (sc : Scenario) (c : Plain) (m : Machine) (t : ℕ) (positive : 0 < t) 
   picture_is only = picture_now keys.User c m t s.shape.long inside ∙ rw (own, twin) refl
 
   module _ (only : OnlyUser c) (e2 : Entries) (v2 : Indices) (ls : List KeyIndex) (next : ℕ) (z : Worked)
-      (few : length z.left ≤ 3) (next_is : next ≡ place + size)
+      (few : length z.left ≤ 6) (next_is : next ≡ place + size)
       (related : Related c (record { entries = e2; map = v2; lets = ls }) z)
       (counts : picture.Stands (P_of only z) e2 kept_now) where
     abbrev pub F2 : Frame

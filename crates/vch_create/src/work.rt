@@ -21,12 +21,13 @@ fn read(parts: &Parts, task: u32) -> Result<Record, Code>
     ensures { ReadsNext parts.now task result }
 {
     let working = parts.frames.at(task);
-    match (&working.frame, parts.scenario.call(task, working.begun)) {
-        (Some(frame), Some(Call::Create { bytes })) => {
-            read_record(parts, task, bytes.as_slice(), frame.at)
-        }
-        _ => Err(Code { number: 4 }),
-    }
+    let Some(frame) = &working.frame else {
+        return Err(Code { number: 4 });
+    };
+    let Some(Call::Create { bytes }) = parts.scenario.call(task, working.begun) else {
+        return Err(Code { number: 4 });
+    };
+    read_record(parts, task, bytes.as_slice(), frame.at)
 }
 
 /// Carries out a record that was read.
