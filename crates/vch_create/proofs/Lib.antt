@@ -12,3 +12,4 @@ pub mod WorkRecords
 pub mod WorkShares
 pub mod WorkStands
 pub mod WorkShared
+pub mod WorkEvent

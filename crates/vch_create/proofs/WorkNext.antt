@@ -44,7 +44,7 @@ pub state_of : (p : Parts) (m : Machine) → Stands p m → Limited p.scenario �
 unfolding IsState
 state_of p m s = s
 
-next_in : (p : Parts) (t : ℕ) (kind : Option Kind) (m : Machine) → IsNext p t kind → Stands p m → next_kind p.scenario m t ≡ kind
+pub next_in : (p : Parts) (t : ℕ) (kind : Option Kind) (m : Machine) → IsNext p t kind → Stands p m → next_kind p.scenario m t ≡ kind
 unfolding IsNext
 next_in p t kind m next s = next m s
 

@@ -153,7 +153,7 @@ module _ (sc : Scenario) (c : Plain) (m : Machine) (t : ℕ) (positive : 0 < t) 
         omega (arith, a, b)
 
     less_rank : rank (Some (calls.Create bytes)) (Some G2) ≤ rank (Some (calls.Create bytes)) (Some (forming_machine w place ks))
-    less_rank = by (if is_empty ks then 12 else 3 * length ks)
+    less_rank = by (cond (is_empty ks) 12 (3 * length ks))
       where
         by : (n : ℕ) → length z.left + (16 * length (drop (place + size) bytes) + n) ≤ 0 + (16 * length (drop place bytes) + n)
         by n = let a = left_bytes in omega (arith, a, few)
