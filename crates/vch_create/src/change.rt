@@ -64,7 +64,7 @@ fn becomes(deed: &Deed, map: &Indices, key: Key) -> Option<Option<u32>>
 }
 
 /// Takes one more reference of an entry, if there is one.
-fn share(entries: &mut EntryTable, index: Option<u32>)
+fn share_index(entries: &mut EntryTable, index: Option<u32>)
     requires { MayShare 1 entries.old index }
     ensures shares { Shares entries.old index entries.new }
     ensures keeps { Keeps entries.old index entries.new }
@@ -82,7 +82,7 @@ fn put(entries: &mut EntryTable, map: &mut Indices, lets: &mut Lets, key: Key, i
     requires room { length lets.old ≤ 11 }
     ensures { Puts (record { entries = entries.old; map = map.old; lets = lets.old }) key index (record { entries = entries.new; map = map.new; lets = lets.new }) }
 {
-    share(entries, index);
+    share_index(entries, index);
     let_one_go(lets, map, key);
     map.set(key.number(), index);
     map.know();
