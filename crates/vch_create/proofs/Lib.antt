@@ -5,6 +5,10 @@ pub mod Quiet
 pub mod Refused
 pub mod Own
 pub mod RefusedEvent
+pub mod CallsUser
+pub mod Begun
+pub mod BeginMachine
+pub mod BeginEvent
 pub mod WorkDeeds
 pub mod WorkMaps
 pub mod WorkNext

@@ -8,7 +8,6 @@ use Rattle.vch_model.specs.declared.call.Call.TheVariants as calls
 use Rattle.vch_model.specs.declared.call.Word.TheVariants as words
 use Rattle.vch_model.specs.declared.entry.Entry.TheVariants as entries
 use Rattle.vch_model.specs.declared.entry.Reply.TheVariants as replies
-use Rattle.vch_model.specs.declared.lists.Scenario.{Scenario}
 use Rattle.vch_model.specs.Lines.{is_task}
 use Rattle.vch_model.specs.Rows.{Entries}
 use Rattle.vch_machine.specs.State as machine
@@ -20,24 +19,15 @@ use Rattle.vch_state.specs.declared.frames.Working.{Working}
 use Rattle.vch_state.specs.declared.parts.Parts.{Parts}
 use Rattle.vch_state.specs.Plain.{Plain, part_of, idle_part, with_frame, closed, frame_of, with_frame_of, begun_of}
 use Rattle.vch_state.specs.Shape.{Indices}
-use Rattle.vch_state.specs.Bounds.{in_all, open_of, unanswered_in}
-use Rattle.vch_state.specs.Stands.{StandsFor, all_live}
+use Rattle.vch_state.specs.Bounds.{open_of}
+use Rattle.vch_state.specs.Stands.{StandsFor}
 use Rattle.vch_state.specs.Reached.{plain_of, parts_in, IsState, Reached, value_kind}
 use Rattle.vch_state.proofs.Glue.{put_taken, own_frame, in_parts, in_frames, twin_of, from_reached}
-use Rattle.vch_state.proofs.Replaced.{framed}
-use Rattle.vch_state.proofs.Sums.{sum_with}
 use Rattle.vch_create.specs.Formed.{items}
 use Rattle.vch_create.specs.Refusals.{IsRefusal}
-use Rattle.vch_create.proofs.Own.{own_begun, same_plain}
+use Rattle.vch_create.proofs.Own.{own_begun, same_plain, room_for}
 use Rattle.vch_create.proofs.Quiet.{Forming, forming_of, forming_frame, forming_machine}
 use Rattle.vch_create.proofs.Refused.{F, x, new_parts, numbered, refused_stands}
-
--- a call that is not answered has room for its entry
-owes : (sc : Scenario) (m : Machine) (t : ℕ) → 0 < t → t - 1 < length m.tasks → open_of (tasked m t).frame ≡ 1 → 1 ≤ in_all (unanswered_in sc) m
-owes sc m t positive inside opened =
-    let a : in_all (unanswered_in sc) (record m { tasks = set m.tasks (t - 1) (framed (tasked m t) None) }) + unanswered_in sc t (tasked m t) ≡ in_all (unanswered_in sc) m + unanswered_in sc t (framed (tasked m t) None) =
-        sum_with (unanswered_in sc) m t (set m.tasks (t - 1) (framed (tasked m t) None)) (framed (tasked m t) None) positive inside refl in
-    omega (arith, a, opened)
 
 same_frame : (o : Option machine.Frame) (g h : machine.Frame) → o ≡ Some g → o ≡ Some h → h ≡ g
 same_frame o g h a b = cc
@@ -58,9 +48,7 @@ module _ (p : Parts) (t : ℕ) (f : Frame) (v : Indices) (task : is_task p.scena
   refuse_room r = from_reached p _ r (λ m limited s. seen m _ s (λ g w bytes e z.
       let n : (0 < t) × (t - 1 < length (plain_of p).tasks) = in_parts p.scenario (keys.User ∷ []) (plain_of p) m t s task in
       let o : open_of (tasked m t).frame ≡ 1 = ap open_of e ∙ ap (λ (x : machine.Frame). open_of (Some x)) z.twin in
-      let a : 1 ≤ in_all (unanswered_in p.scenario) m = owes p.scenario m t n.0 (omega (arith, n.1, s.shape.long)) o in
-      let b : all_live (keys.User ∷ []) (plain_of p) + in_all (unanswered_in p.scenario) m + (length p.scenario.phases - p.phase) ≤ p.history.spare = s.room in
-      omega (arith, a, b)))
+      room_for p.scenario (keys.User ∷ []) (plain_of p) m t s n.0 (omega (arith, n.1, s.shape.long)) (omega (arith, o))))
 
   module _ (code : Code) (frames2 : List Working) (history2 : Entries)
       (put : frames2 ≡ with_frame_of (with_frame_of p.frames t None) t (closed (record f { forming = None; key = 0; lets = f.lets ++ items v })))

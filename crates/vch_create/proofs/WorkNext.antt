@@ -27,7 +27,8 @@ use Rattle.vch_state.specs.Plain.{Plain, Part, SlotName, part_of, idle_part, fra
 use Rattle.vch_state.specs.Shape.{Indices, IsKeyed, Optional, Pairwise, IsFrame, IsReceipt, IsClaim, IsLet, IsMap, IsName, IsSlotOf, HasMap}
 use Rattle.vch_state.specs.Bounds.{Limited}
 use Rattle.vch_state.specs.Stands.{StandsFor}
-use Rattle.vch_state.specs.Lookups.{names_in, no_names}
+use Rattle.vch_state.specs.Lookups.{names_in}
+use Rattle.vch_state.specs.Plain.{no_names}
 use Rattle.vch_state.specs.Reached.{plain_of, parts_in, IsState, IsEnd, IsNext, Reached, Stands, value_kind}
 use Rattle.vch_state.proofs.Glue.{own_frame, in_parts, in_frames, twin_of}
 use Rattle.vch_create.specs.Formed.{is_forming}

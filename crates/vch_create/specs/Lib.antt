@@ -1,3 +1,4 @@
+pub mod Begins
 pub mod Formed
 pub mod Refusals
 pub mod Works

@@ -22,7 +22,9 @@ pub mod Referring
 pub mod Refers
 pub mod LetsGo
 pub mod Glue
+pub mod NextKinds
 pub mod LetsGoEvent
+pub mod RefersEvent
 pub mod OneClaim
 pub mod Asks
 pub mod AsksEvent

@@ -1,4 +1,5 @@
 pub mod Plain
+pub mod Lookups
 pub mod UserOnly
 pub mod Shape
 pub mod Pictures
@@ -7,5 +8,5 @@ pub mod Stands
 pub mod Places
 pub mod Moves
 pub mod Reached
+pub mod Nexts
 pub mod Fresh
-pub mod Lookups

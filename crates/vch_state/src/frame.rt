@@ -1,9 +1,9 @@
 ghost use Rattle.std.specs.Prelude.{◌≡◌, ◌<◌, ◌+◌, ◌++◌, ◌∷◌, [], None, Some, IfSome, IfNone, IsNone, IsTrue, ◌↔◌, length};
-ghost use Rattle.vch_state.specs.Plain.{closed};
+ghost use Rattle.vch_state.specs.Reached as reached;
 
 use arrayvec::ArrayVec;
 use std::marker::Model;
-use vch_base::Key;
+use vch_base::{Key, Kind};
 use vch_table::Indices;
 use vch_value::{Asked, Claim, Receipt};
 
@@ -106,4 +106,22 @@ pub struct Frame {
     pub receipt: Option<KeyReceipt>,
     pub lets: Lets,
     pub claim: Claiming,
+}
+
+impl Frame {
+    /// The kind of the next event, where that is one of a value: a receipt is taken first, a claim is asked and looked at
+    /// then, and references are let go of last. Nothing where the call is to go on.
+    pub fn value_kind(&self) -> Option<Kind>
+        ensures { result ≡ reached.value_kind (Some self.now) }
+    {
+        if self.receipt.is_some() {
+            return Some(Kind::Refer);
+        }
+        match &self.claim {
+            Claiming::Claimed { .. } => Some(Kind::Ask),
+            Claiming::Answered { .. } => Some(Kind::Recheck),
+            Claiming::Nothing if !self.lets.is_empty() => Some(Kind::LetGo),
+            Claiming::Nothing => None,
+        }
+    }
 }

@@ -33,8 +33,8 @@
 //! recheck_event: made is not 1 but refs is not 0: the claim ends, the value stays
 //! ```
 //!
-//! Of the events, LetGo, Ask and Recheck are here, each a function of its own; Make, Refer, Begin, Work, Place and the
-//! end of a phase are not yet. A proved caller:
+//! Of the events, LetGo, Ask, Recheck and Refer are here, each a function of its own, and `value_event` does which of them
+//! is next; Make, Begin, Work, Place and the end of a phase are not. A proved caller:
 //!
 //! ```rust
 //! let mut core = Core::start(alloc, &scenario)?;
@@ -44,18 +44,23 @@
 
 mod ask;
 mod copy;
+mod forming;
 mod frame;
 mod frames;
 mod let_go;
 mod made;
+mod next;
 mod parts;
 mod places;
 mod recheck;
+mod record;
+mod refer;
 mod script;
 mod spaces;
 mod start;
 mod state;
 mod tally;
+mod value;
 
 pub use frame::{Claiming, Frame, KeyIndex, KeyReceipt, Lets};
 pub use frames::{Frames, Working};
