@@ -16,26 +16,23 @@ use Rattle.vch_value.specs.Picture as picture
 use Rattle.vch_value.specs.declared.flight.Receipt.{Receipt}
 use Rattle.vch_value.specs.Picture.{Picture, Claimed}
 use Rattle.vch_model.specs.Lines.{is_task}
-use Rattle.vch_model.specs.declared.call.Call.{Call}
 use Rattle.vch_model.specs.declared.call.Call.TheVariants as calls
 use Rattle.vch_machine.specs.State as machine
 use Rattle.vch_machine.specs.State.{Handles, Machine, tasked, of_key}
 use Rattle.vch_machine.specs.Frames as frames
 use Rattle.vch_machine.specs.Naming.{handles_of, same_handle}
-use Rattle.vch_machine.specs.Next.{current, next_kind, nth_call}
-use Rattle.vch_machine.specs.Working.{Worked, work_first, work_done, do_work, size_of}
+use Rattle.vch_machine.specs.Next.{next_kind}
+use Rattle.vch_machine.specs.Working.{Worked, work_first, size_of}
 use Rattle.vch_machine.specs.Events.{event, event_of}
 use Rattle.vch_legal.proofs.Keeps.{event_keeps}
 use Rattle.vch_legal.proofs.OwnTask.{work_few}
 use Rattle.vch_state.specs.declared.frame.Frame.{Frame}
-use Rattle.vch_state.specs.declared.frame.Claiming.{Claiming}
 use Rattle.vch_state.specs.declared.frame.KeyIndex.{KeyIndex}
 use Rattle.vch_state.specs.declared.frames.Working.{Working}
 use Rattle.vch_state.specs.declared.parts.Parts.{Parts}
-use Rattle.vch_state.specs.Plain.{Plain, with_frame, idle_part, part_of, frame_of, with_frame_of, begun_of}
+use Rattle.vch_state.specs.Plain.{Plain, with_frame, idle_part, part_of, frame_of, with_frame_of}
 use Rattle.vch_state.specs.Shape.{Indices, index_of, Optional, IsIndexOf, IsMap, slots_of}
 use Rattle.vch_state.specs.Pictures.{cell_holds, task_holds}
-use Rattle.vch_state.specs.Bounds.{Limited}
 use Rattle.vch_state.specs.Stands.{StandsFor}
 use Rattle.vch_state.specs.Lookups.{names_in}
 use Rattle.vch_state.specs.Reached.{plain_of, parts_in, IsState, IsEvent, IsNext, Follows, Reached, Stands, value_kind}
@@ -47,17 +44,16 @@ use Rattle.vch_ports.specs.Names.{by_name, looked}
 use Rattle.vch_create.specs.declared.change.Deed.{Deed}
 use Rattle.vch_create.specs.declared.change.Deed.TheVariants as deeds
 use Rattle.vch_create.specs.declared.change.Change.{Change}
-use Rattle.vch_create.specs.declared.record.Record.{Record}
 use Rattle.vch_create.specs.Works.{Workspace, ChangesBy, CanChange, CanDo, Reads, voucher_of, first_change, becomes}
 use Rattle.vch_create.specs.Carried.{ReadsNext}
 use Rattle.vch_create.specs.Refusals.{IsRefusal}
-use Rattle.vch_create.proofs.Quiet.{Forming, forming_frame, forming_machine}
+use Rattle.vch_create.proofs.Quiet.{forming_frame, forming_machine}
 use Rattle.vch_create.proofs.WorkNext.{Works, works_seen, works_at, call_is, state_of, reached_state, task_names, names_same, next_in}
-use Rattle.vch_create.proofs.WorkMaps.{Related, IsShared, OnlyUser, P}
+use Rattle.vch_create.proofs.WorkMaps.{Related, IsShared, P}
 use Rattle.vch_create.proofs.WorkDeeds.{both_done}
-use Rattle.vch_create.proofs.WorkRecords.{Answers, IsDone, unworked, first_answers}
+use Rattle.vch_create.proofs.WorkRecords.{Answers, unworked, first_answers}
 use Rattle.vch_create.proofs.WorkShared.{Named, NamedIn, first_named, table_holds, map_shares}
-use Rattle.vch_create.proofs.WorkStands.{F2, G2, P_of, kept_now, picture_is, then_parts, then_machine, stands_after}
+use Rattle.vch_create.proofs.WorkStands.{then_parts, then_machine, stands_after}
 
 -- no two entries of any key have one handle
 apart_all : (p : Parts) → IsApart p.user_entries.slots → (k : Key) → IsApart (slots_of (plain_of p) k)

@@ -1,30 +1,28 @@
 -- Where a Work is next: the frame forms a voucher, and the record at its place is whole or cut.
 use Rattle.std.proofs.Common.{◌≡◌, ℕ, zero, suc, ◌+◌, ◌-◌, ◌<◌, ◌≤◌, ◌==◌, nat_lt, Bool, true, false, cond, List, [], ◌∷◌, refl, arith, sym, ap, ◌∙◌, length, drop, get_or, subst, Option, Some, None, IsTrue}
-use Rattle.std.specs.Prelude.{IsSome, is_some}
+use Rattle.std.specs.Prelude.{IsSome}
 use Rattle.std.proofs.lemmas.Grind.{common_steps}
 use Rattle.std.proofs.lemmas.List.{length-drop}
 use Rattle.vch_base.specs.Slots.{slot_at}
-use Rattle.vch_base.specs.declared.key.Key.{Key}
 use Rattle.vch_base.specs.declared.key.Key.TheVariants as keys
 use Rattle.vch_base.specs.declared.kind.Kind.{Kind}
 use Rattle.vch_base.specs.declared.kind.Kind.TheVariants as kinds
-use Rattle.vch_recipe.specs.Recipes.{First, One, first_of}
+use Rattle.vch_recipe.specs.Recipes.{First, first_of}
 use Rattle.vch_table.specs.declared.table.Cell.{Cell}
 use Rattle.vch_ports.specs.Names.{Names, by_name, looked}
-use Rattle.vch_ports.specs.declared.space.Named.{Named}
 use Rattle.vch_model.specs.Lines.{is_task, lines_until, phases_in}
 use Rattle.vch_model.specs.declared.call.Call.{Call}
 use Rattle.vch_model.specs.declared.call.Call.TheVariants as calls
 use Rattle.vch_machine.specs.State as machine
 use Rattle.vch_machine.specs.State.{Handles, Machine, Tasked, Place, tasked}
 use Rattle.vch_machine.specs.Naming.{handles_of}
-use Rattle.vch_machine.specs.Next.{current, nth_call, first_next, call_next, frame_next, next_kind, task_next}
+use Rattle.vch_machine.specs.Next.{current, nth_call, first_next, frame_next, next_kind, task_next}
 use Rattle.vch_state.specs.declared.frame.Frame.{Frame}
 use Rattle.vch_state.specs.declared.frame.Claiming.{Claiming}
 use Rattle.vch_state.specs.declared.frames.Working.{Working}
 use Rattle.vch_state.specs.declared.parts.Parts.{Parts}
-use Rattle.vch_state.specs.Plain.{Plain, Part, SlotName, part_of, idle_part, frame_of, begun_of}
-use Rattle.vch_state.specs.Shape.{Indices, IsKeyed, Optional, Pairwise, IsFrame, IsReceipt, IsClaim, IsLet, IsMap, IsName, IsSlotOf, HasMap}
+use Rattle.vch_state.specs.Plain.{Plain, SlotName, part_of, idle_part, frame_of, begun_of}
+use Rattle.vch_state.specs.Shape.{Indices, IsKeyed, Optional, Pairwise, IsFrame, IsReceipt, IsClaim, IsLet, IsMap, IsName, HasMap}
 use Rattle.vch_state.specs.Bounds.{Limited}
 use Rattle.vch_state.specs.Stands.{StandsFor}
 use Rattle.vch_state.specs.Lookups.{names_in}

@@ -1,14 +1,11 @@
 -- The vouchers that a record copies from are those of names: they stand in the table, so their entries have holders, and
 -- few.
-use Rattle.std.proofs.Common.{◌≡◌, ℕ, zero, suc, ◌+◌, ◌-◌, ◌<◌, ◌≤◌, ◌==◌, ◌||◌, not, Bool, true, false, cond, List, [], ◌∷◌, ◌++◌, refl, arith, sym, ap, ◌∙◌, length, subst, Option, Some, None, Result, Ok, Err}
-use Rattle.std.specs.Prelude.{IsSome, ◌^◌}
+use Rattle.std.proofs.Common.{◌≡◌, ℕ, zero, suc, ◌+◌, ◌<◌, ◌≤◌, ◌==◌, ◌||◌, not, Bool, true, false, cond, List, [], ◌∷◌, ◌++◌, refl, arith, sym, ap, ◌∙◌, length, subst, Option, Some, None, Result, Ok}
 use Rattle.std.specs.List.{flat_map}
 use Rattle.std.proofs.lemmas.List.Sums.{sum_by-append}
-use Rattle.std.proofs.lemmas.Grind.{common_steps}
 use Rattle.vch_base.specs.declared.fault.Code.{Code}
 use Rattle.vch_base.specs.declared.key.Key.{Key}
 use Rattle.vch_base.specs.declared.key.Key.TheVariants as keys
-use Rattle.vch_base.specs.Keys.{key_of}
 use Rattle.vch_base.specs.Managers.{count}
 use Rattle.vch_base.specs.Slots.{slot_at}
 use Rattle.vch_recipe.specs.Recipes.{First, One}
@@ -32,7 +29,7 @@ use Rattle.vch_create.specs.declared.change.Deed.{Deed}
 use Rattle.vch_create.specs.declared.change.Deed.TheVariants as deeds
 use Rattle.vch_create.specs.declared.change.Change.{Change}
 use Rattle.vch_create.specs.declared.change.AtKeys.{AtKeys}
-use Rattle.vch_create.specs.Works.{cell_indices, slot_indices, keys_named, change_at, copy_at, change_of, change_found, change_named, first_change, MayShare, CanDo}
+use Rattle.vch_create.specs.Works.{cell_indices, slot_indices, keys_named, change_at, copy_at, change_of, change_found, first_change, MayShare}
 
 -- The voucher of a copy is one that was looked for.
 

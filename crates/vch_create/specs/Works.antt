@@ -1,5 +1,5 @@
 -- A record that asks no manager, by indices: which keys of the map it changes, and to what.
-use Rattle.std.specs.Prelude.{◌≡◌, ℕ, ◌+◌, ◌<◌, ◌≤◌, ◌^◌, ◌==◌, ◌||◌, not, if◌then◌else◌, List, [], ◌++◌, length, drop, Option, Some, None, Result, Ok, Err, IfSome, IsSome, IfOk, IfErr, pos}
+use Rattle.std.specs.Prelude.{◌≡◌, ℕ, ◌+◌, ◌<◌, ◌≤◌, ◌^◌, ◌==◌, ◌||◌, not, if◌then◌else◌, List, ◌++◌, length, drop, Option, Some, None, Result, Ok, Err, IfSome, IsSome, IfOk, IfErr, pos}
 use Rattle.vch_base.specs.declared.fault.Code.{Code}
 use Rattle.vch_base.specs.declared.key.Key.{Key}
 use Rattle.vch_base.specs.declared.key.Key.TheVariants as keys
@@ -7,7 +7,6 @@ use Rattle.vch_base.specs.Keys.{number_of, key_of}
 use Rattle.vch_base.specs.Managers.{Kept, count}
 use Rattle.vch_base.specs.Slots.{slot_at}
 use Rattle.vch_recipe.specs.Recipes.{First, One, first_of}
-use Rattle.vch_recipe.specs.declared.recipe.Recipe.{Recipe}
 use Rattle.vch_entry.specs.declared.table.Entry.{Entry}
 use Rattle.vch_entry.specs.Entries.{Entries, Writes, entry_at, handle_at, refs_of, more_refs}
 use Rattle.vch_value.specs.Picture as picture

@@ -1,4 +1,4 @@
-use Rattle.std.proofs.Common.{◌∙◌, sym, ap, refl}
+use Rattle.std.proofs.Common.{◌∙◌, sym, refl}
 use Rattle.vch_create.proofs.WorkNext.{in_workings, some_frame, some_map, keyed_map}
 use Rattle.vch_create.proofs.WorkEvent.{may_change, lets_few, work_follows}
 use Rattle.vch_create.proofs.work.carry_out.Goals as goal
