@@ -30,11 +30,10 @@ use Rattle.vch_state.specs.declared.frame.Frame.{Frame}
 use Rattle.vch_state.specs.declared.frame.KeyIndex.{KeyIndex}
 use Rattle.vch_state.specs.declared.frames.Working.{Working}
 use Rattle.vch_state.specs.declared.parts.Parts.{Parts}
-use Rattle.vch_state.specs.Plain.{Plain, with_frame, idle_part, part_of, frame_of, with_frame_of}
+use Rattle.vch_state.specs.Plain.{Plain, with_frame, idle_part, part_of, frame_of, with_frame_of, names_of}
 use Rattle.vch_state.specs.Shape.{Indices, index_of, Optional, IsIndexOf, IsMap, slots_of}
 use Rattle.vch_state.specs.Pictures.{cell_holds, task_holds}
 use Rattle.vch_state.specs.Stands.{StandsFor}
-use Rattle.vch_state.specs.Lookups.{names_in}
 use Rattle.vch_state.specs.Reached.{plain_of, parts_in, IsState, IsEvent, IsNext, Follows, Reached, Stands, value_kind}
 use Rattle.vch_state.proofs.Glue.{put_taken, own_frame, in_parts, in_frames, is_user, event_is}
 use Rattle.vch_legal.proofs.TaskLists.{behind}
@@ -84,7 +83,7 @@ module _ (p : Parts) (t : ℕ) (task : is_task p.scenario t ≡ true) (next : Is
     s = (state_of p m st).1
 
     same_names : (name : ℕ) → Optional (IsMap (plain_of p)) (voucher_of p t name) (handles_of (tasked m t).names name)
-    same_names = names_same (plain_of p) (names_in p.spaces t) (tasked m t).names (task_names p t task m s)
+    same_names = names_same (plain_of p) (names_of p.spaces t).names (tasked m t).names (task_names p t task m s)
 
     -- what the code read is what the machine makes of the record
     answered : (res : Result (Option Change) Code) → first_change (voucher_of p t) (first_of (drop f.at bytes)) ≡ res → Answers (plain_of p) w res (work_first (tasked m t).names (first_of (drop g.at_byte bytes)) w)
@@ -135,7 +134,7 @@ module _ (p : Parts) (t : ℕ) (task : is_task p.scenario t ≡ true) (next : Is
       where
         held : (name : ℕ) → voucher_of p t name ≡ Some u → (k : Key) → k ≡ keys.User → (i h : ℕ) → index_of k u ≡ Some i → handle_at (slots_of (plain_of p) keys.User) i ≡ Some h → 0 < count h after
         held name there k same i h e handle =
-            let a : 0 < count h (flat_map (cell_holds (plain_of p) keys.User) p.vouchers) = table_holds (plain_of p) keys.User (looked (by_name (names_in p.spaces t) name)) u i h there (ap (λ q. index_of q u) (sym same) ∙ e) handle in
+            let a : 0 < count h (flat_map (cell_holds (plain_of p) keys.User) p.vouchers) = table_holds (plain_of p) keys.User (looked (by_name (names_of p.spaces t).names name)) u i h there (ap (λ q. index_of q u) (sym same) ∙ e) handle in
             let b : count h after ≡ count h (behind (task_holds keys.User) m.tasks (t - 1)) + count h (flat_map (cell_holds (plain_of p) keys.User) p.vouchers) =
                 sum_by-append (λ y. cond (y == h) 1 0) (behind (task_holds keys.User) m.tasks (t - 1)) (flat_map (cell_holds (plain_of p) keys.User) p.vouchers) in
             omega (arith, a, b)

@@ -21,12 +21,10 @@ use Rattle.vch_state.specs.declared.frame.Frame.{Frame}
 use Rattle.vch_state.specs.declared.frame.Claiming.{Claiming}
 use Rattle.vch_state.specs.declared.frames.Working.{Working}
 use Rattle.vch_state.specs.declared.parts.Parts.{Parts}
-use Rattle.vch_state.specs.Plain.{Plain, SlotName, part_of, idle_part, frame_of, begun_of}
+use Rattle.vch_state.specs.Plain.{Plain, SlotName, part_of, idle_part, frame_of, begun_of, names_of, no_names}
 use Rattle.vch_state.specs.Shape.{Indices, IsKeyed, Optional, Pairwise, IsFrame, IsReceipt, IsClaim, IsLet, IsMap, IsName, HasMap}
 use Rattle.vch_state.specs.Bounds.{Limited}
 use Rattle.vch_state.specs.Stands.{StandsFor}
-use Rattle.vch_state.specs.Lookups.{names_in}
-use Rattle.vch_state.specs.Plain.{no_names}
 use Rattle.vch_state.specs.Reached.{plain_of, parts_in, IsState, IsEnd, IsNext, Reached, Stands, value_kind}
 use Rattle.vch_state.proofs.Glue.{own_frame, in_parts, in_frames, twin_of}
 use Rattle.vch_create.specs.Formed.{is_forming}
@@ -114,16 +112,16 @@ frames_range (s ∷ ss) [] = omega arith
 frames_range (s ∷ ss) (x ∷ fs) = let e : length (parts_in ss fs) ≤ length fs = frames_range ss fs in omega arith
 
 module _ (p : Parts) (t : ℕ) (task : is_task p.scenario t ≡ true) where
-  pub own_names : (m : Machine) → StandsFor p.scenario (keys.User ∷ []) (plain_of p) m → (part_of (plain_of p) t).names ≡ names_in p.spaces t
+  pub own_names : (m : Machine) → StandsFor p.scenario (keys.User ∷ []) (plain_of p) m → (part_of (plain_of p) t).names ≡ (names_of p.spaces t).names
   own_names m s = parts_names p.spaces p.frames (t - 1) (in_frames p m t s task)
 
-  pub task_names : (m : Machine) → StandsFor p.scenario (keys.User ∷ []) (plain_of p) m → Pairwise (IsName (plain_of p)) (names_in p.spaces t) (tasked m t).names
+  pub task_names : (m : Machine) → StandsFor p.scenario (keys.User ∷ []) (plain_of p) m → Pairwise (IsName (plain_of p)) (names_of p.spaces t).names (tasked m t).names
   task_names m s =
       let n : (0 < t) × (t - 1 < length (plain_of p).tasks) = in_parts p.scenario (keys.User ∷ []) (plain_of p) m t s task in
       subst (λ ns. Pairwise (IsName (plain_of p)) ns (tasked m t).names) (own_names m s) (s.shape.tasks t n.0 n.1).names
 
   pub all_there : Reached p → NamesAreThere p t
-  all_there r = reached_state p (NamesAreThere p t) r (λ m st. names_there (plain_of p) (names_in p.spaces t) (tasked m t).names (task_names m (state_of p m st).1))
+  all_there r = reached_state p (NamesAreThere p t) r (λ m st. names_there (plain_of p) (names_of p.spaces t).names (tasked m t).names (task_names m (state_of p m st).1))
 
   pub in_spaces : Reached p → (0 < t) × (t ≤ length p.spaces)
   in_spaces r = reached_state p _ r (λ m st.

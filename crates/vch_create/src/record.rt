@@ -1,4 +1,4 @@
-ghost use Rattle.std.specs.Prelude.{◌≡◌, ◌≤◌, ◌<◌, ◌==◌, ◌+◌, IfOk, IfErr, IsTrue, length, pos};
+ghost use Rattle.std.specs.Prelude.{◌≡◌, ◌≤◌, ◌<◌, length};
 ghost use Rattle.vch_create.specs.Works as works;
 ghost use Rattle.vch_create.specs.Works.{NamesAreThere, Reads, keys_named};
 
@@ -63,7 +63,12 @@ fn copy_at(key: u32, previous: Option<Indices>) -> Result<Option<Change>, Code>
 }
 
 /// What a record with its previous voucher does, or a code.
-fn change_of(command: u32, key: u32, size: usize, previous: Option<Indices>) -> Result<Option<Change>, Code>
+fn change_of(
+    command: u32,
+    key: u32,
+    size: usize,
+    previous: Option<Indices>,
+) -> Result<Option<Change>, Code>
     ensures { result ≡ works.change_of command key size previous }
 {
     match command {
@@ -82,14 +87,21 @@ pub fn voucher_of(parts: &Parts, task: u32, name: u32) -> Option<Indices>
     requires there { NamesAreThere parts.now task }
     ensures { result ≡ works.voucher_of parts.now task name }
 {
-    match parts.spaces.look(task, name) {
+    match parts.spaces.at(task).look(name) {
         Some(slot) => Some(parts.vouchers.indices(slot)),
         None => None,
     }
 }
 
 /// What a record does with the previous voucher that it names; a name that is 0 names none.
-fn change_named(parts: &Parts, task: u32, command: u32, key: u32, size: usize, name: u32) -> Result<Option<Change>, Code>
+fn change_named(
+    parts: &Parts,
+    task: u32,
+    command: u32,
+    key: u32,
+    size: usize,
+    name: u32,
+) -> Result<Option<Change>, Code>
     requires task { (0 < task) × (task ≤ length parts.now.spaces) }
     requires there { NamesAreThere parts.now task }
     ensures { result ≡ works.change_named (works.voucher_of parts.now task) command key size name }
