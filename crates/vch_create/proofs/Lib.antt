@@ -17,3 +17,7 @@ pub mod WorkShares
 pub mod WorkStands
 pub mod WorkShared
 pub mod WorkEvent
+pub mod Giving
+pub mod Slots
+pub mod Vouchers
+pub mod NameLists
