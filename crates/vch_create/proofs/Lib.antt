@@ -21,3 +21,7 @@ pub mod Giving
 pub mod Slots
 pub mod Vouchers
 pub mod NameLists
+pub mod Tables
+pub mod Kept
+pub mod Placed
+pub mod References
