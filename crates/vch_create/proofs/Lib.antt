@@ -15,6 +15,8 @@ pub mod WorkNext
 pub mod WorkRecords
 pub mod WorkShares
 pub mod WorkStands
+pub mod WorkShared
+pub mod WorkEvent
 pub mod Giving
 pub mod Slots
 pub mod Vouchers

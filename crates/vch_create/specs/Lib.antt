@@ -4,3 +4,4 @@ pub mod Refusals
 pub mod Works
 pub mod Carried
 pub mod Gives
+pub mod Drops

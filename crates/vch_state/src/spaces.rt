@@ -1,6 +1,6 @@
 ghost use Rattle.std.specs.Prelude.{◌≡◌, ◌≤◌, ◌<◌, ◌+◌, ◌-◌, ◌++◌, ◌∷◌, [], OnOk, OnErr, length};
-ghost use Rattle.vch_ports.specs.Names.{Adds, AllReferencesBelow, GivesUp, by_name, looked};
-ghost use Rattle.vch_state.specs.Lookups.{AllSpaced, names_in};
+ghost use Rattle.vch_ports.specs.Names.{Adds, AllReferencesBelow, GivesUp};
+ghost use Rattle.vch_state.specs.Lookups.{AllSpaced};
 ghost use Rattle.vch_state.specs.Plain.{names_of, with_names_of};
 
 use std::alloc::Global;
@@ -59,15 +59,6 @@ impl Spaces {
         ensures { result.now ≡ names_of self.now task }
     {
         &self.items[task as usize - 1]
-    }
-
-    /// The slot of a name of a task, or nothing where the task has no such name. The time is linear in the number of its
-    /// names.
-    pub fn look(&self, task: u32, name: u32) -> Option<u32>
-        requires task { (0 < task) × (task ≤ length self.now) }
-        ensures { result ≡ looked (by_name (names_in self.now task) name) }
-    {
-        self.items[task as usize - 1].look(name)
     }
 
     /// Makes room for one new name of a task. The one error is want of memory.
