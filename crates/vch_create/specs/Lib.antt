@@ -3,3 +3,5 @@ pub mod Formed
 pub mod Refusals
 pub mod Works
 pub mod Carried
+pub mod Gives
+pub mod Drops

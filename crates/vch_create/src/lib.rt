@@ -3,6 +3,7 @@
 
 mod begin;
 mod change;
+mod give_up;
 mod make;
 mod place;
 mod record;
