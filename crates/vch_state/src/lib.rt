@@ -33,11 +33,13 @@
 //! recheck_event: made is not 1 but refs is not 0: the claim ends, the value stays
 //! ```
 //!
-//! Of the events, LetGo, Ask and Recheck are here, each a function of its own; Make, Refer, Begin, Work, Place and the
-//! end of a phase are not yet. A proved caller:
+//! Of the events, LetGo, Ask, Recheck and the end of a phase are here, each a function of its own; Make, Refer, Begin,
+//! Work and Place are not yet. Which event is next is told by [`Core::next_kind`], for each state that the core stands
+//! for; a phase ends exactly where no task has one. A proved caller:
 //!
 //! ```rust
 //! let mut core = Core::start(alloc, &scenario)?;
+//! let ended = core.next_phase();
 //! let claims = core.tally().claims;
 //! ```
 #![tactic(auto)]
@@ -58,6 +60,8 @@ mod spaces;
 mod start;
 mod state;
 mod tally;
+#[cfg(test)]
+mod tests;
 
 pub use frame::{Claiming, Frame, KeyIndex, KeyReceipt, Lets};
 pub use frames::{Frames, Working};
