@@ -1,19 +1,17 @@
 -- The handles of user data that were ever used are few, and so are the values that are live.
-use Rattle.std.proofs.Common.{◌≡◌, ℕ, ◌+◌, ◌≤◌, List, [], ◌∷◌, ◌++◌, arith, length, Option, Some, None}
+use Rattle.std.proofs.Common.{◌≡◌, ◌+◌, ◌≤◌, List, [], ◌∷◌, ◌++◌, arith, length, Option, Some, None}
 use Rattle.std.specs.List.{flat_map, count_by}
 use Rattle.std.proofs.lemmas.List.{length-append}
 use Rattle.std.proofs.lemmas.List.Sums.{count_by-le-length}
 use Rattle.vch_base.specs.declared.key.Key.{Key}
 use Rattle.vch_base.specs.declared.key.Key.TheVariants as keys
-use Rattle.vch_base.specs.declared.places.Live.{Live}
 use Rattle.vch_base.specs.Slots.{is_taken}
-use Rattle.vch_value.specs.declared.flight.Receipt.{Receipt}
 use Rattle.vch_machine.specs.State.{of_key}
 use Rattle.vch_state.specs.declared.frame.Frame.{Frame}
 use Rattle.vch_state.specs.declared.frame.KeyReceipt.{KeyReceipt}
 use Rattle.vch_state.specs.declared.parts.Parts.{Parts}
 use Rattle.vch_state.specs.Plain.{Part}
-use Rattle.vch_state.specs.Pictures.{same_key, receipt_of, receipts_of, part_expects, picture_of}
+use Rattle.vch_state.specs.Pictures.{receipt_of, receipts_of, part_expects, picture_of}
 use Rattle.vch_state.specs.Reached.{plain_of, parts_in, Reached}
 use Rattle.vch_state.proofs.Glue.{from_reached}
 use Rattle.vch_state.proofs.Spending.{refers_bound}

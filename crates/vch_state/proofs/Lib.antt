@@ -33,6 +33,8 @@ pub mod Rechecks
 pub mod RechecksEvent
 pub mod FromStart
 pub mod FewHandles
+pub mod OnlyUser
+pub mod LiveCounts
 pub mod PhaseEnds
 pub mod Loops
 pub mod RunOn

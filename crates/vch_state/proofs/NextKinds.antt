@@ -1,5 +1,5 @@
 -- The next event of a task by what the core has of it is that of every state that the core stands for.
-use Rattle.std.proofs.Common.{◌≡◌, ℕ, zero, suc, ◌+◌, ◌-◌, ◌<◌, ◌≤◌, ◌==◌, ◌&&◌, ◌||◌, Bool, true, false, List, [], ◌∷◌, refl, arith, sym, ap, ◌∙◌, subst, length, drop, get_or, Option, Some, None, nat_lt}
+use Rattle.std.proofs.Common.{◌≡◌, ℕ, zero, suc, ◌+◌, ◌-◌, ◌<◌, ◌≤◌, ◌==◌, Bool, true, false, List, [], ◌∷◌, refl, arith, sym, ap, ◌∙◌, length, drop, get_or, Option, Some, None, nat_lt}
 use Rattle.std.specs.Prelude.{is_some, if◌then◌else◌}
 use Rattle.vch_base.specs.declared.kind.Kind.{Kind}
 use Rattle.vch_base.specs.declared.kind.Kind.TheVariants as kinds
@@ -15,17 +15,16 @@ use Rattle.vch_ports.specs.Names.{Names, by_name}
 use Rattle.vch_machine.specs.State as machine
 use Rattle.vch_machine.specs.State.{Handles, Place, Machine, Named, Tasked, tasked}
 use Rattle.vch_machine.specs.Naming.{handles_of}
-use Rattle.vch_machine.specs.Next.{nth_call, current, known_name, first_next, call_next, claim_next, formed_next, lets_next, unclaimed_next, frame_next, task_next, next_kind}
+use Rattle.vch_machine.specs.Next.{nth_call, current, known_name, first_next, claim_next, formed_next, lets_next, unclaimed_next, frame_next, task_next, next_kind}
 use Rattle.vch_state.specs.declared.frame.Frame.{Frame}
 use Rattle.vch_state.specs.declared.frame.Claiming.{Claiming}
 use Rattle.vch_state.specs.declared.frame.KeyIndex.{KeyIndex}
 use Rattle.vch_state.specs.declared.frame.KeyReceipt.{KeyReceipt}
 use Rattle.vch_state.specs.declared.frames.Working.{Working}
 use Rattle.vch_state.specs.declared.parts.Parts.{Parts}
-use Rattle.vch_state.specs.Plain.{Plain, Part, SlotName, idle_part, part_of, names_of, no_names, frame_of, begun_of, working_of, resting}
+use Rattle.vch_state.specs.Plain.{Plain, Part, SlotName, idle_part, part_of, names_of, no_names, working_of, resting}
 use Rattle.vch_state.specs.Shape.{Indices, Pairwise, Optional, IsName, IsMap, IsReceipt, IsLet, IsClaim, IsFrame, IsTask}
 use Rattle.vch_state.specs.UserOnly.{FormsUser}
-use Rattle.vch_state.specs.Stands.{StandsFor}
 use Rattle.vch_state.specs.Reached.{plain_of, part_in, parts_in, IsState, IsNext, Reached, value_kind, receipt_kind, claim_kind, lets_kind}
 use Rattle.vch_state.specs.Nexts.{known, known_slot, record_kind, forming_kind, first_kind, task_kind}
 use Rattle.vch_state.proofs.Glue.{in_parts, from_reached}

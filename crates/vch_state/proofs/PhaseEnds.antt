@@ -1,10 +1,9 @@
 -- The end of a phase: what a core is owed, and what it stands for afterwards; and when it comes, by the tasks' next events.
-use Rattle.std.proofs.Common.{◌≡◌, ℕ, zero, suc, ◌+◌, ◌-◌, ◌<◌, ◌≤◌, ◌&&◌, nat_lt, Bool, true, false, List, [], ◌∷◌, ◌++◌, refl, arith, sym, ap, ◌∙◌, subst, length, reverse, Option, Some, None, IsTrue}
+use Rattle.std.proofs.Common.{◌≡◌, ℕ, zero, suc, ◌+◌, ◌-◌, ◌<◌, ◌≤◌, ◌&&◌, nat_lt, true, false, List, [], ◌∷◌, ◌++◌, refl, arith, sym, ap, ◌∙◌, subst, length, reverse, Option, Some, None, IsTrue}
 use Rattle.std.specs.Prelude.{is_some, if◌then◌else◌}
 use Rattle.std.specs.List.{AllByRecursion}
 use Rattle.std.proofs.lemmas.Grind.{common_steps}
 use Rattle.vch_base.specs.declared.key.Key.TheVariants as keys
-use Rattle.vch_base.specs.declared.kind.Kind.{Kind}
 use Rattle.vch_base.specs.declared.kind.Kind.TheVariants as kinds
 use Rattle.vch_model.specs.Lines.{is_task, phases_in, lines_until}
 use Rattle.vch_model.specs.Rows.{Entries}
@@ -16,22 +15,21 @@ use Rattle.vch_machine.specs.Next.{current, next_kind}
 use Rattle.vch_machine.specs.Frames.{noted}
 use Rattle.vch_machine.specs.Events.{numbers, ready, phase_event}
 use Rattle.vch_machine.specs.Schedules.{Move}
-use Rattle.vch_legal.specs.Tie as tie
 use Rattle.vch_legal.proofs.AtRest.{Rests, task_rests}
 use Rattle.vch_legal.proofs.Keeps.{phase_keeps}
 use Rattle.vch_legal.proofs.Runs.{reached_stands}
 use Rattle.vch_state.specs.declared.frame.Frame.{Frame}
 use Rattle.vch_state.specs.declared.parts.Parts.{Parts}
-use Rattle.vch_state.specs.Plain.{Plain, Part, part_of, frame_of, begun_of, working_of, names_of}
-use Rattle.vch_state.specs.Shape.{Optional, IsFrame, IsTask, IsIndexOf}
-use Rattle.vch_state.specs.Bounds.{Limited, in_all, open_in, begun_in, flying_in, unanswered_in}
-use Rattle.vch_state.specs.Stands.{StandsFor, owed, all_live}
+use Rattle.vch_state.specs.Plain.{Plain, Part, part_of, begun_of, working_of, names_of}
+use Rattle.vch_state.specs.Shape.{Optional, IsFrame, IsTask}
+use Rattle.vch_state.specs.Bounds.{in_all, open_in, begun_in, flying_in}
+use Rattle.vch_state.specs.Stands.{StandsFor, owed}
 use Rattle.vch_state.specs.Reached.{plain_of, IsState, IsEnd, IsNext, Reached}
 use Rattle.vch_state.specs.Nexts.{task_kind}
 use Rattle.vch_state.specs.Phases.{IsQuiet, IsOver, IsPhaseEnd, PhaseFollows}
 use Rattle.vch_state.proofs.Stable.{task_stays}
 use Rattle.vch_state.proofs.Glue.{in_parts, from_reached}
-use Rattle.vch_state.proofs.NextKinds.{next_agrees, part_is, task_inside}
+use Rattle.vch_state.proofs.NextKinds.{next_agrees, part_is}
 use Rattle.vch_state.proofs.RunOn.{run_on}
 
 -- What a core is owed.

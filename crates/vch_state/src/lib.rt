@@ -33,11 +33,14 @@
 //! recheck_event: made is not 1 but refs is not 0: the claim ends, the value stays
 //! ```
 //!
-//! Of the events, LetGo, Ask, Recheck and Refer are here, each a function of its own, and `value_event` does which of them
-//! is next; Make, Begin, Work, Place and the end of a phase are not. A proved caller:
+//! Of the events, Refer, LetGo, Ask and Recheck are here, each a function of its own, and `value_event` does which of them is
+//! next; so is the end of a phase. Begin, Work, Make and Place belong to the calls, and stand in crates above. Which event
+//! is next is told by [`Core::next_kind`], for each state that the core stands for; a phase ends exactly where no task has
+//! one. A proved caller:
 //!
 //! ```rust
 //! let mut core = Core::start(alloc, &scenario)?;
+//! let ended = core.next_phase();
 //! let claims = core.tally().claims;
 //! ```
 #![tactic(auto)]
@@ -61,6 +64,8 @@ mod spaces;
 mod start;
 mod state;
 mod tally;
+#[cfg(test)]
+mod tests;
 mod value;
 
 pub use frame::{Claiming, Frame, KeyIndex, KeyReceipt, Lets};

@@ -1,11 +1,10 @@
-ghost use Rattle.std.specs.Prelude.{◌≡◌, ◌≤◌, ◌↔◌, ◌+◌, ◌∷◌, [], Some, IsTrue, length};
-ghost use Rattle.vch_base.specs.declared.key.Key.TheVariants as keys;
+ghost use Rattle.std.specs.Prelude.{◌≡◌, ◌≤◌, ◌↔◌, Some, IsTrue, length};
 ghost use Rattle.vch_base.specs.declared.kind.Kind.TheVariants as kinds;
 ghost use Rattle.vch_model.specs.Lines.{is_task};
+ghost use Rattle.vch_machine.specs.State.{Machine};
 ghost use Rattle.vch_table.specs.Vouchers.{live_slots};
 ghost use Rattle.vch_state.specs.Plain.{frame_of};
-ghost use Rattle.vch_state.specs.Reached.{Follows, plain_of, value_kind};
-ghost use Rattle.vch_state.specs.Stands.{all_live};
+ghost use Rattle.vch_state.specs.Reached.{Follows, Stands, value_kind};
 
 use crate::ask::ask;
 use crate::let_go::let_go;
@@ -81,7 +80,7 @@ impl Core {
     /// How many values are live: those of user data, and Default. The time is linear in the number of handles that were
     /// ever used.
     pub fn values(&self) -> u64
-        ensures { result ≡ all_live (keys.User ∷ []) (plain_of self.now) + 1 }
+        ensures { (m : Machine) → Stands self.now m → result ≡ length m.live }
     {
         self.parts.user.live() + 1
     }
