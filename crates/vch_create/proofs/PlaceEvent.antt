@@ -44,7 +44,7 @@ use Rattle.vch_create.specs.Refusals.{IsRefusal}
 use Rattle.vch_create.specs.declared.place.Given.{Given}
 use Rattle.vch_create.proofs.Own.{own_begun, own_next, own_range, no_queue, parts_both, parts_room, spaced_at, same_plain}
 use Rattle.vch_create.proofs.Placed.{F, x, found, new_parts, new_machine, entry, is_place, numbered, answered_name, placed_stands}
-use Rattle.vch_create.proofs.Quiet.{Forming, forming_frame, forming_machine, quiet}
+use Rattle.vch_create.proofs.Quiet.{Forming, forming_frame, forming_machine, quiet_twin}
 use Rattle.vch_create.proofs.RefusedEvent.{seen}
 use Rattle.vch_create.proofs.WorkNext.{own_names, reached_state, state_of}
 
@@ -76,18 +76,6 @@ unformed sc phases t x g e a b d f h = never (sym nothing ∙ sym (ap (task_next
     never e = cc
 
 module _ (c : Plain) (call : Option Call) where
-  no_receipt : (o : Option Place) → Optional IsReceipt None o → o ≡ None
-  no_receipt None e = refl
-  no_receipt (Some p) e = absurd e
-
-  no_claim : (o : Option machine.Claim) → IsClaim c Claiming.Nothing o → o ≡ None
-  no_claim None e = refl
-  no_claim (Some p) e = absurd e
-
-  no_lets : (ps : List Place) → Pairwise (IsLet c) [] ps → ps ≡ []
-  no_lets [] e = refl
-  no_lets (p ∷ ps) e = absurd e
-
   no_map : {A B : Type 0} (r : A → B → Type 0) (o : Option B) → Optional r None o → o ≡ None
   no_map r None e = refl
   no_map r (Some p) e = absurd e
@@ -96,13 +84,9 @@ module _ (c : Plain) (call : Option Call) where
   not_next sc phases t None y r idle none next = unframed sc phases t y (no_map (IsFrame c call) y.frame r) next
   not_next sc phases t (Some f) y r idle none next = by y.frame refl r
     where
-      q : (f.receipt ≡ None) × (f.claim ≡ Claiming.Nothing) × (f.lets ≡ [])
-      q = quiet f idle
-
       by : (o : Option machine.Frame) → y.frame ≡ o → Optional (IsFrame c call) (Some f) o → ⊥
       by None e r = r
-      by (Some g) e r = unformed sc phases t y g e (no_receipt g.receipt (subst (λ o. Optional IsReceipt o g.receipt) q.0 r.receipt)) (no_claim g.claim (subst (λ x. IsClaim c x g.claim) q.1 r.claim))
-          (no_lets g.lets (subst (λ ls. Pairwise (IsLet c) ls g.lets) q.2 r.lets)) (no_map (IsMap c) g.forming (subst (λ o. Optional (IsMap c) o g.forming) none r.forming)) next
+      by (Some g) e r = let q = quiet_twin c call f g r idle in unformed sc phases t y g e q.0 q.1 q.2 (no_map (IsMap c) g.forming (subst (λ o. Optional (IsMap c) o g.forming) none r.forming)) next
 
 -- only user data has entries, and no two have one handle
 pub apart_all : (p : Parts) → IsApart p.user_entries.slots → (q : Key) → IsApart (slots_of (plain_of p) q)
