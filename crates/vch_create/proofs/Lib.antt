@@ -26,3 +26,4 @@ pub mod Kept
 pub mod Placed
 pub mod References
 pub mod PlaceEvent
+pub mod BeginCalls
