@@ -27,3 +27,4 @@ pub mod Placed
 pub mod References
 pub mod PlaceEvent
 pub mod BeginCalls
+pub mod Calling

@@ -5,3 +5,4 @@ pub mod Works
 pub mod Carried
 pub mod Gives
 pub mod Drops
+pub mod Called

@@ -3,9 +3,12 @@
 
 mod begin;
 mod change;
+mod events;
 mod give_up;
 mod make;
 mod place;
 mod record;
 mod refuse;
 mod work;
+
+pub use events::create_event;
