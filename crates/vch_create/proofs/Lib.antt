@@ -25,3 +25,7 @@ pub mod Tables
 pub mod Kept
 pub mod Placed
 pub mod References
+pub mod NamesLess
+pub mod SlotsLess
+pub mod Still
+pub mod Dropped

@@ -5,8 +5,6 @@ use Rattle.vch_table.specs.declared.table.Cell.{Cell}
 use Rattle.vch_table.specs.Vouchers.{less, given_back}
 use Rattle.vch_ports.specs.Names.{by_name}
 use Rattle.vch_model.specs.Replies.{refused}
-use Rattle.vch_model.specs.declared.call.Call.{Call}
-use Rattle.vch_model.specs.declared.call.Call.TheVariants as calls
 use Rattle.vch_model.specs.declared.entry.Reply.{Reply}
 use Rattle.vch_model.specs.declared.entry.Reply.TheVariants as replies
 use Rattle.vch_state.specs.declared.frame.Frame.{Frame}
@@ -17,10 +15,6 @@ use Rattle.vch_state.specs.Plain.{SlotName}
 use Rattle.vch_state.specs.Shape.{Indices}
 use Rattle.vch_create.specs.Formed.{items}
 use Rattle.vch_create.specs.declared.give_up.GivenUp.{GivenUp}
-
--- the call is a drop of this name
-abbrev pub IsDropOf : ℕ → Option Call → Type 0
-IsDropOf n call = call ≡ Some (calls.GiveUp n)
 
 -- the slot of a name is live, where the name is there
 abbrev pub IsLiveAt : List (Option Cell) → Option SlotName → Type 0
