@@ -16,11 +16,6 @@ use Rattle.vch_state.specs.Shape.{Indices}
 use Rattle.vch_create.specs.Formed.{items}
 use Rattle.vch_create.specs.declared.give_up.GivenUp.{GivenUp}
 
--- the slot of a name is live, where the name is there
-abbrev pub IsLiveAt : List (Option Cell) → Option SlotName → Type 0
-IsLiveAt table None = Unit {0}
-IsLiveAt table (Some x) = IsSome (slot_at table x.slot)
-
 -- a slot has one reference less, and its voucher comes out with the last
 abbrev pub Loses : Option Cell → List (Option Cell) → List (Option Cell) → ℕ → Option Indices → Type 0
 Loses None old new slot orphan = ⊥
