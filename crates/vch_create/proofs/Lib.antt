@@ -29,3 +29,5 @@ pub mod NamesLess
 pub mod SlotsLess
 pub mod Still
 pub mod Dropped
+pub mod PlaceEvent
+pub mod DropEvent

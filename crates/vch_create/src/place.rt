@@ -47,7 +47,8 @@ fn give_name(
     spaces.reserve(task)?;
     let met = vouchers.meet(map)?;
     let added = spaces.add(task, met.slot);
-    if added.was_there {
+    let had_one = added.was_there;
+    if had_one {
         vouchers.release(met.slot);
     }
     Ok(Given {
