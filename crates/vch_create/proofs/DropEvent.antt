@@ -7,7 +7,6 @@ use Rattle.vch_entry.specs.Entries.{IsApart}
 use Rattle.vch_table.specs.declared.table.Cell.{Cell}
 use Rattle.vch_table.specs.Vouchers.{Vouchers, live_slots}
 use Rattle.vch_ports.specs.Names.{Names, by_name, given_up}
-use Rattle.vch_model.specs.declared.call.Call.{Call}
 use Rattle.vch_model.specs.declared.call.Call.TheVariants as calls
 use Rattle.vch_model.specs.declared.call.Word.TheVariants as words
 use Rattle.vch_model.specs.declared.entry.Entry.TheVariants as entries

@@ -1,5 +1,5 @@
 -- A task gave up a name, and its drop is answered: what the parts stand for then.
-use Rattle.std.proofs.Common.{◌≡◌, ◌≢◌, ℕ, ◌+◌, ◌-◌, ◌*◌, ◌<◌, ◌≤◌, ◌==◌, nat_lt, not, Bool, true, false, cond, List, [], ◌∷◌, ◌++◌, refl, arith, sym, ap, ◌∙◌, length, get_or, subst, Option, Some, None}
+use Rattle.std.proofs.Common.{◌≡◌, ◌≢◌, ℕ, ◌+◌, ◌-◌, ◌<◌, ◌≤◌, ◌==◌, nat_lt, not, Bool, true, false, cond, List, [], ◌∷◌, refl, arith, sym, ap, ◌∙◌, length, get_or, subst, Option, Some, None}
 use Rattle.std.specs.Prelude.{is_some}
 use Rattle.std.proofs.Math.ListN.{set}
 use Rattle.std.proofs.lemmas.List.{get_or-set_same, get_or-set_other, set-set}
@@ -11,7 +11,6 @@ use Rattle.vch_entry.specs.Entries.{IsApart}
 use Rattle.vch_table.specs.declared.table.Cell.{Cell}
 use Rattle.vch_table.specs.Vouchers.{Vouchers, live_slots, references_of}
 use Rattle.vch_ports.specs.Names.{Names, Spaced, by_name, given_up}
-use Rattle.vch_model.specs.declared.call.Call.{Call}
 use Rattle.vch_model.specs.declared.call.Call.TheVariants as calls
 use Rattle.vch_model.specs.declared.entry.Entry.{Entry}
 use Rattle.vch_model.specs.declared.entry.Entry.TheVariants as entries
@@ -21,7 +20,7 @@ use Rattle.vch_model.specs.Replies as replies
 use Rattle.vch_model.specs.Words.{word_of}
 use Rattle.vch_machine.specs.State as machine
 use Rattle.vch_machine.specs.State.{Handles, Place, Machine, Tasked, tasked, with_tasked, idle}
-use Rattle.vch_machine.specs.Beginning.{begin_call, begun_one, leaving_frame, dropped, store_reply}
+use Rattle.vch_machine.specs.Beginning.{begin_call, begun_one, leaving_frame, store_reply}
 use Rattle.vch_machine.specs.Frames as frames
 use Rattle.vch_machine.specs.Frames.{replied}
 use Rattle.vch_machine.specs.Naming.{handles_of, is_known, one_less, orphaned, places}
@@ -35,11 +34,11 @@ use Rattle.vch_state.specs.declared.frame.Claiming.{Claiming}
 use Rattle.vch_state.specs.Plain.{Plain, Part, SlotName, part_of, idle_part, closed}
 use Rattle.vch_state.specs.Shape.{Indices, Pairwise, Optional, HasMap, IsLet, IsSlotOf, IsName, IsFrame, IsTask, IsTable, slots_of, named_by, queued_by, referred_by}
 use Rattle.vch_state.specs.Pictures.{cell_holds, frame_holds, receipts_of, frame_claimed, let_holds}
-use Rattle.vch_state.specs.Bounds.{rank, makes, open_of, flying_of, rank_in, makes_in, unanswered_in, user_references}
+use Rattle.vch_state.specs.Bounds.{open_of, flying_of, rank_in, makes_in, unanswered_in, user_references}
 use Rattle.vch_state.specs.Stands.{StandsFor}
 use Rattle.vch_state.proofs.Closing.{closed_frames, holds_closed, receipts_closed, claimed_closed, rank_closed, makes_closed, open_closed, flying_closed}
 use Rattle.vch_state.proofs.Spending.{Paid}
-use Rattle.vch_create.specs.Drops.{Drops, drop_answer, leaving, orphan_items}
+use Rattle.vch_create.specs.Drops.{Drops, drop_answer, orphan_items}
 use Rattle.vch_create.specs.declared.give_up.GivenUp.{GivenUp}
 use Rattle.vch_create.proofs.BeginMachine.{counted, begun_here}
 use Rattle.vch_create.proofs.CallsUser.{call_within}
@@ -49,7 +48,7 @@ use Rattle.vch_create.proofs.OneTask.{then_parts, then_machine, stands_one}
 use Rattle.vch_create.proofs.SlotsLess.{Ends, by_orphan, cell_map, ends_of, less_holds, out, refs_less, slots_still, still_live}
 use Rattle.vch_create.proofs.Still.{names_still, queue_still, referred_at, task_still}
 use Rattle.vch_create.proofs.Tables.{referred_with}
-use Rattle.vch_create.proofs.Vouchers.{Keeps, Tests, all_know, keeps_of, keeps_set, of_slot, tests_there}
+use Rattle.vch_create.proofs.Vouchers.{Tests, all_know, keeps_of, keeps_set, of_slot, tests_there}
 
 module _ (sc : Scenario) (k : Key) (c : Plain) (m : Machine) (t : ℕ) (positive : 0 < t) (inside : t - 1 < length c.tasks) (s : StandsFor sc (k ∷ []) c m) (name : ℕ)
     (own : (part_of c t).frame ≡ None) (task : (tasked m t).frame ≡ None) (call : nth_call sc t ((tasked m t).begun + 1) ≡ Some (calls.GiveUp name))

@@ -1,4 +1,4 @@
-use Rattle.std.proofs.Common.{◌∙◌, ap, refl}
+use Rattle.std.proofs.Common.{◌∙◌, refl}
 use Rattle.vch_create.proofs.BeginEvent.{begin_range, begin_few, begun_range, begin_room}
 use Rattle.vch_create.proofs.DropEvent.{drop_follows}
 use Rattle.vch_create.proofs.WorkNext.{all_there, in_spaces}
