@@ -1,7 +1,6 @@
 -- From what the calls of a naming promise to what it does.
-use Rattle.std.proofs.Common.{◌≡◌, ℕ, ◌-◌, Bool, true, false, List, refl, sym, ap, ◌∙◌, subst, Option, Some, None, IsTrue}
+use Rattle.std.proofs.Common.{◌≡◌, ℕ, ◌-◌, true, false, List, refl, sym, ap, ◌∙◌, subst, Option, Some, None}
 use Rattle.std.specs.Prelude.{IsSome, IfSome}
-use Rattle.std.proofs.Math.ListN.{set}
 use Rattle.std.proofs.lemmas.List.{set-set}
 use Rattle.vch_base.specs.Slots.{slot_at, Writes}
 use Rattle.vch_table.specs.declared.table.Cell.{Cell}
@@ -9,10 +8,9 @@ use Rattle.vch_table.specs.declared.table.Met.{Met}
 use Rattle.vch_table.specs.Vouchers.{less, meets}
 use Rattle.vch_ports.specs.declared.space.Added.{Added}
 use Rattle.vch_ports.specs.Names.{Names, Adds}
-use Rattle.vch_state.specs.Plain.{names_of, with_names_of}
+use Rattle.vch_state.specs.Plain.{with_names_of}
 use Rattle.vch_state.specs.Shape.{Indices}
 use Rattle.vch_create.specs.Gives.{Gives, GivesBack, Releases}
-use Rattle.vch_create.specs.declared.place.Given.{Given}
 
 -- names with other room
 reserved : (a b : Names) → b.names ≡ a.names → b.next ≡ a.next → b ≡ record a { spare = b.spare }

@@ -1,5 +1,5 @@
 -- What a task stands for stays where the entries stay and each slot keeps its voucher.
-use Rattle.std.proofs.Common.{◌≡◌, ℕ, List, [], ◌∷◌, Option, Some, None}
+use Rattle.std.proofs.Common.{ℕ, List, Option}
 use Rattle.vch_table.specs.declared.table.Cell.{Cell}
 use Rattle.vch_model.specs.declared.call.Call.{Call}
 use Rattle.vch_model.specs.declared.entry.Entry.{Entry}
@@ -7,7 +7,7 @@ use Rattle.vch_machine.specs.State as machine
 use Rattle.vch_machine.specs.State.{Handles, Tasked}
 use Rattle.vch_state.specs.declared.frame.Frame.{Frame}
 use Rattle.vch_state.specs.Plain.{Plain, Part}
-use Rattle.vch_state.specs.Shape.{Pairwise, Optional, IsSlotOf, IsName, IsMessage, IsFrame, IsTask}
+use Rattle.vch_state.specs.Shape.{Pairwise, IsSlotOf, IsName, IsMessage, IsFrame, IsTask}
 use Rattle.vch_state.proofs.Stable.{pairwise, optional}
 
 module _ (c : Plain) (ts : List Part) (table : List (Option Cell)) (history : List Entry) (spare : ℕ) where

@@ -31,3 +31,4 @@ pub mod Still
 pub mod Dropped
 pub mod PlaceEvent
 pub mod DropEvent
+pub mod BeginCalls

@@ -1,11 +1,10 @@
 -- From what the code of Place does for a create to what the event does.
-use Rattle.std.proofs.Common.{◌≡◌, ℕ, zero, suc, ◌+◌, ◌-◌, ◌<◌, ◌≤◌, nat_lt, Bool, true, false, cond, List, [], ◌∷◌, ◌++◌, refl, arith, sym, ap, ◌∙◌, length, get_or, subst, Option, Some, None}
+use Rattle.std.proofs.Common.{◌≡◌, ℕ, ◌+◌, ◌-◌, ◌<◌, ◌≤◌, nat_lt, Bool, true, false, cond, List, [], ◌∷◌, ◌++◌, refl, arith, sym, ap, ◌∙◌, length, subst, Option, Some, None}
 use Rattle.std.specs.Prelude.{ℤ, pos}
 use Rattle.std.proofs.Math.ListN.{set}
 use Rattle.std.proofs.lemmas.List.{get_or-set_same, set-set}
 use Rattle.vch_base.specs.declared.key.Key.{Key}
 use Rattle.vch_base.specs.declared.key.Key.TheVariants as keys
-use Rattle.vch_base.specs.declared.kind.Kind.{Kind}
 use Rattle.vch_base.specs.declared.kind.Kind.TheVariants as kinds
 use Rattle.vch_entry.specs.Entries.{IsApart}
 use Rattle.vch_table.specs.declared.table.Cell.{Cell}
@@ -14,7 +13,6 @@ use Rattle.vch_ports.specs.Names.{Names}
 use Rattle.vch_model.specs.declared.call.Call.{Call}
 use Rattle.vch_model.specs.declared.call.Call.TheVariants as calls
 use Rattle.vch_model.specs.declared.call.Word.TheVariants as words
-use Rattle.vch_model.specs.declared.entry.Entry.{Entry}
 use Rattle.vch_model.specs.declared.entry.Entry.TheVariants as entries
 use Rattle.vch_model.specs.declared.entry.Reply.TheVariants as replies
 use Rattle.vch_model.specs.declared.lists.Scenario.{Scenario}
@@ -26,25 +24,25 @@ use Rattle.vch_machine.specs.Frames.{refuse}
 use Rattle.vch_machine.specs.Events.{event, on_formed}
 use Rattle.vch_machine.specs.Naming.{name_for, name_of}
 use Rattle.vch_machine.specs.Next.{current, next_kind, frame_next, task_next, nth_call}
-use Rattle.vch_machine.specs.Placing.{do_place, place_create}
+use Rattle.vch_machine.specs.Placing.{do_place}
 use Rattle.vch_legal.proofs.Keeps.{event_keeps}
 use Rattle.vch_state.specs.declared.frame.Frame.{Frame}
 use Rattle.vch_state.specs.declared.frame.Claiming.{Claiming}
 use Rattle.vch_state.specs.declared.frames.Working.{Working}
 use Rattle.vch_state.specs.declared.parts.Parts.{Parts}
 use Rattle.vch_state.specs.Lookups.{AllSpaced}
-use Rattle.vch_state.specs.Plain.{Plain, Part, part_of, idle_part, no_names, resting, closed, frame_of, begun_of, working_of, with_frame_of, names_of, with_names_of}
-use Rattle.vch_state.specs.Shape.{Indices, Pairwise, Optional, IsClaim, IsMap, IsFrame, IsLet, IsReceipt, slots_of}
+use Rattle.vch_state.specs.Plain.{Plain, part_of, resting, closed, frame_of, begun_of, with_frame_of, names_of, with_names_of}
+use Rattle.vch_state.specs.Shape.{Indices, Optional, IsMap, IsFrame, slots_of}
 use Rattle.vch_state.specs.Stands.{StandsFor}
-use Rattle.vch_state.specs.Reached.{plain_of, part_in, parts_in, IsState, IsEnd, IsEventBy, IsNext, MayFollow, Reached, value_kind}
-use Rattle.vch_state.proofs.Glue.{own_frame, in_parts, in_frames, event_is, from_reached}
+use Rattle.vch_state.specs.Reached.{plain_of, parts_in, IsState, IsEnd, IsEventBy, IsNext, MayFollow, Reached, value_kind}
+use Rattle.vch_state.proofs.Glue.{own_frame, in_parts, event_is}
 use Rattle.vch_create.specs.Formed.{items}
 use Rattle.vch_create.specs.Gives.{Gives, map_in, placed}
 use Rattle.vch_create.specs.Refusals.{IsRefusal}
 use Rattle.vch_create.specs.declared.place.Given.{Given}
 use Rattle.vch_create.proofs.Own.{own_begun, own_next, own_range, no_queue, parts_both, parts_room, spaced_at, same_plain}
-use Rattle.vch_create.proofs.Placed.{F, x, found, new_parts, new_machine, entry, is_place, numbered, answered_name, placed_stands}
-use Rattle.vch_create.proofs.Quiet.{Forming, forming_frame, forming_machine, quiet}
+use Rattle.vch_create.proofs.Placed.{x, new_parts, new_machine, is_place, numbered, answered_name, placed_stands}
+use Rattle.vch_create.proofs.Quiet.{Forming, forming_frame, forming_machine, quiet_twin}
 use Rattle.vch_create.proofs.RefusedEvent.{seen}
 use Rattle.vch_create.proofs.WorkNext.{own_names, reached_state, state_of}
 
@@ -76,18 +74,6 @@ unformed sc phases t x g e a b d f h = never (sym nothing ∙ sym (ap (task_next
     never e = cc
 
 module _ (c : Plain) (call : Option Call) where
-  no_receipt : (o : Option Place) → Optional IsReceipt None o → o ≡ None
-  no_receipt None e = refl
-  no_receipt (Some p) e = absurd e
-
-  no_claim : (o : Option machine.Claim) → IsClaim c Claiming.Nothing o → o ≡ None
-  no_claim None e = refl
-  no_claim (Some p) e = absurd e
-
-  no_lets : (ps : List Place) → Pairwise (IsLet c) [] ps → ps ≡ []
-  no_lets [] e = refl
-  no_lets (p ∷ ps) e = absurd e
-
   no_map : {A B : Type 0} (r : A → B → Type 0) (o : Option B) → Optional r None o → o ≡ None
   no_map r None e = refl
   no_map r (Some p) e = absurd e
@@ -96,13 +82,9 @@ module _ (c : Plain) (call : Option Call) where
   not_next sc phases t None y r idle none next = unframed sc phases t y (no_map (IsFrame c call) y.frame r) next
   not_next sc phases t (Some f) y r idle none next = by y.frame refl r
     where
-      q : (f.receipt ≡ None) × (f.claim ≡ Claiming.Nothing) × (f.lets ≡ [])
-      q = quiet f idle
-
       by : (o : Option machine.Frame) → y.frame ≡ o → Optional (IsFrame c call) (Some f) o → ⊥
       by None e r = r
-      by (Some g) e r = unformed sc phases t y g e (no_receipt g.receipt (subst (λ o. Optional IsReceipt o g.receipt) q.0 r.receipt)) (no_claim g.claim (subst (λ x. IsClaim c x g.claim) q.1 r.claim))
-          (no_lets g.lets (subst (λ ls. Pairwise (IsLet c) ls g.lets) q.2 r.lets)) (no_map (IsMap c) g.forming (subst (λ o. Optional (IsMap c) o g.forming) none r.forming)) next
+      by (Some g) e r = let q = quiet_twin c call f g r idle in unformed sc phases t y g e q.0 q.1 q.2 (no_map (IsMap c) g.forming (subst (λ o. Optional (IsMap c) o g.forming) none r.forming)) next
 
 -- only user data has entries, and no two have one handle
 pub apart_all : (p : Parts) → IsApart p.user_entries.slots → (q : Key) → IsApart (slots_of (plain_of p) q)

@@ -1,5 +1,5 @@
 -- A create gets its name: what the parts stand for then.
-use Rattle.std.proofs.Common.{◌≡◌, ◌≢◌, ℕ, zero, suc, ◌+◌, ◌-◌, ◌*◌, ◌<◌, ◌≤◌, ◌==◌, nat_lt, Bool, true, false, cond, List, [], ◌∷◌, ◌++◌, refl, arith, sym, ap, ◌∙◌, length, get_or, append-nil, subst, Option, Some, None, inl, inr}
+use Rattle.std.proofs.Common.{◌≡◌, ◌≢◌, ℕ, ◌+◌, ◌-◌, ◌<◌, ◌≤◌, ◌==◌, Bool, true, false, cond, List, [], ◌∷◌, refl, arith, sym, ap, ◌∙◌, length, get_or, append-nil, subst, Option, Some, None, inl, inr}
 use Rattle.std.proofs.Math.ListN.{set}
 use Rattle.std.proofs.lemmas.Bool.{cases_eq}
 use Rattle.std.proofs.lemmas.Grind.{common_steps}
@@ -13,20 +13,19 @@ use Rattle.vch_table.specs.declared.table.Cell.{Cell}
 use Rattle.vch_table.specs.Vouchers.{Vouchers, live_slots, meets, references_of}
 use Rattle.vch_ports.specs.Names as ports
 use Rattle.vch_ports.specs.Names.{Names, Spaced, Adds, by_slot}
-use Rattle.vch_model.specs.declared.call.Call.{Call}
 use Rattle.vch_model.specs.declared.call.Call.TheVariants as calls
 use Rattle.vch_model.specs.declared.entry.Entry.{Entry}
 use Rattle.vch_model.specs.declared.entry.Entry.TheVariants as entries
 use Rattle.vch_model.specs.declared.entry.Reply.TheVariants as replies
 use Rattle.vch_model.specs.declared.lists.Scenario.{Scenario}
-use Rattle.vch_model.specs.Lines.{is_task, lines_of}
+use Rattle.vch_model.specs.Lines.{lines_of}
 use Rattle.vch_model.specs.Words.{word_of}
 use Rattle.vch_machine.specs.State as machine
 use Rattle.vch_machine.specs.State.{of_key, Handles, Place, Machine, Tasked, tasked, with_tasked, idle, is_empty}
 use Rattle.vch_machine.specs.Frames as frames
 use Rattle.vch_machine.specs.Naming.{places, doubled, is_known, name_of, name_for, with_name}
 use Rattle.vch_machine.specs.Next.{current, nth_call}
-use Rattle.vch_machine.specs.Placing.{place_create, ended}
+use Rattle.vch_machine.specs.Placing.{place_create}
 use Rattle.vch_legal.specs.Facts.{Fits}
 use Rattle.vch_legal.proofs.OwnTask.{doubled_few}
 use Rattle.vch_state.specs.declared.frame.Frame.{Frame}
@@ -34,7 +33,7 @@ use Rattle.vch_state.specs.declared.frame.Claiming.{Claiming}
 use Rattle.vch_state.specs.Plain.{Plain, Part, part_of, closed}
 use Rattle.vch_state.specs.Shape.{Indices, Pairwise, Optional, IsMap, IsLet, IsSlotOf, IsName, IsMessage, IsFrame, IsTask, IsTable, slots_of, named_by, queued_by, referred_by}
 use Rattle.vch_state.specs.Pictures.{cell_holds, frame_holds, receipts_of, frame_claimed, listed, let_holds}
-use Rattle.vch_state.specs.Bounds.{rank, makes, open_of, flying_of, work_left, rank_in, makes_in, references_in, unanswered_in}
+use Rattle.vch_state.specs.Bounds.{rank, makes, open_of, flying_of, work_left, rank_in, unanswered_in}
 use Rattle.vch_state.specs.Stands.{StandsFor}
 use Rattle.vch_state.proofs.Closing.{closed_frames, holds_closed, receipts_closed, claimed_closed, rank_closed, makes_closed, open_closed, flying_closed}
 use Rattle.vch_state.proofs.FrameParts.{frames_of}
@@ -49,7 +48,7 @@ use Rattle.vch_create.proofs.OneTask.{then_parts, then_machine, stands_one}
 use Rattle.vch_create.proofs.Quiet.{forming_frame, forming_machine}
 use Rattle.vch_create.proofs.Refused.{work_there}
 use Rattle.vch_create.proofs.Tables.{Put, met_was, met_indices, slot_live, put_by, referred_with, put_holds, was_holding, slots_kept, slot_here}
-use Rattle.vch_create.proofs.Vouchers.{Tests, tests_met, known_is, name_is, slot_name}
+use Rattle.vch_create.proofs.Vouchers.{Tests, tests_met, known_is}
 
 module _ (sc : Scenario) (k : Key) (c : Plain) (m : Machine) (t : ℕ) (positive : 0 < t) (inside : t - 1 < length c.tasks) (s : StandsFor sc (k ∷ []) c m)
     (u : Indices) (at key : ℕ) (v : Handles) (place : ℕ) (keys : List Key) (bytes : List ℕ)

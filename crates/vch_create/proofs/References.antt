@@ -1,21 +1,18 @@
 -- The references of slots and names are few.
-use Rattle.std.proofs.Common.{◌≡◌, ℕ, suc, ◌+◌, ◌-◌, ◌<◌, ◌≤◌, ◌==◌, Bool, true, false, List, [], ◌∷◌, refl, arith, sym, ap, ◌∙◌, length, subst, Option, Some, None}
+use Rattle.std.proofs.Common.{◌≡◌, ℕ, ◌+◌, ◌-◌, ◌<◌, ◌≤◌, ◌==◌, Bool, true, false, List, [], ◌∷◌, refl, arith, sym, ◌∙◌, length}
 use Rattle.std.specs.List.{AllByRecursion}
 use Rattle.vch_base.specs.Slots.{slot_at}
-use Rattle.vch_base.specs.declared.key.Key.{Key}
 use Rattle.vch_base.specs.declared.key.Key.TheVariants as keys
 use Rattle.vch_table.specs.Vouchers.{AreBelow, live_slots, references_of}
 use Rattle.vch_ports.specs.Names.{Names, AllReferred, AllReferencesBelow}
 use Rattle.vch_model.specs.Lines.{is_task}
-use Rattle.vch_model.specs.declared.lists.Scenario.{Scenario}
-use Rattle.vch_machine.specs.State.{Machine, Message, Named, Tasked, tasked, idle}
+use Rattle.vch_machine.specs.State.{Message, Named, Tasked, tasked, idle}
 use Rattle.vch_state.specs.declared.frames.Working.{Working}
 use Rattle.vch_state.specs.declared.parts.Parts.{Parts}
-use Rattle.vch_state.specs.Plain.{Plain, Part, SlotMessage, SlotName, part_of, names_of}
+use Rattle.vch_state.specs.Plain.{Plain, Part, SlotMessage, SlotName, names_of}
 use Rattle.vch_state.specs.Lookups.{AllSpaced}
 use Rattle.vch_state.specs.Shape.{Pairwise, IsMessage, IsName, bit, is_slot, named_by, queued_by, referred_by}
-use Rattle.vch_state.specs.Bounds.{Limited, in_all, begun_in, open_in, references_in, sum_tasks, user_references}
-use Rattle.vch_state.specs.Stands.{StandsFor}
+use Rattle.vch_state.specs.Bounds.{in_all, begun_in, references_in, sum_tasks, user_references}
 use Rattle.vch_state.specs.Reached.{Reached, plain_of, parts_in}
 use Rattle.vch_state.proofs.Glue.{from_reached, in_parts}
 use Rattle.vch_state.proofs.Spending.{begun_bound}

@@ -1,5 +1,5 @@
 -- The voucher table once a task got a name for a voucher.
-use Rattle.std.proofs.Common.{◌≡◌, ◌≢◌, ℕ, zero, suc, ◌+◌, ◌-◌, ◌<◌, ◌≤◌, ◌==◌, nat_lt, Bool, true, false, cond, List, [], ◌∷◌, ◌++◌, refl, arith, sym, ap, ◌∙◌, length, get_or, subst, Option, Some, None, inl, inr}
+use Rattle.std.proofs.Common.{◌≡◌, ◌≢◌, ℕ, zero, suc, ◌+◌, ◌-◌, ◌<◌, ◌≤◌, ◌==◌, nat_lt, Bool, true, false, cond, List, [], ◌∷◌, refl, arith, sym, ap, ◌∙◌, length, get_or, subst, Option, Some, None, inl, inr}
 use Rattle.std.specs.List.{flat_map}
 use Rattle.std.proofs.lemmas.Bool.{cases_eq}
 use Rattle.std.proofs.lemmas.Grind.{common_steps}
@@ -10,15 +10,12 @@ use Rattle.vch_base.specs.Slots.{slot_at, Writes}
 use Rattle.vch_table.specs.declared.table.Cell.{Cell}
 use Rattle.vch_table.specs.declared.table.Met.{Met}
 use Rattle.vch_table.specs.Vouchers.{Vouchers, less, more, meets, references_of}
-use Rattle.vch_ports.specs.declared.space.Added.{Added}
-use Rattle.vch_ports.specs.Names as ports
-use Rattle.vch_ports.specs.Names.{Names, by_slot}
+use Rattle.vch_ports.specs.Names.{by_slot}
 use Rattle.vch_model.specs.declared.entry.Entry.{Entry}
 use Rattle.vch_machine.specs.State.{Handles, Named, of_key}
 use Rattle.vch_state.specs.Plain.{Plain, Part, SlotName, idle_part}
 use Rattle.vch_state.specs.Shape.{Indices, Pairwise, Optional, IsIndexOf, IsMap, HasMap, IsSlotOf, IsName, index_of, slots_of, named_by, queued_by, referred_by}
 use Rattle.vch_state.specs.Pictures.{cell_holds, listed, translated}
-use Rattle.vch_state.proofs.Held.{cases_of}
 use Rattle.vch_state.proofs.Maps.{at_key}
 use Rattle.vch_create.specs.Gives.{GivesBack, Releases}
 use Rattle.vch_create.proofs.Slots.{written}

@@ -1,6 +1,6 @@
 -- Slots of the voucher table and vouchers of the machine: a slot has the handles of a voucher exactly where a name or a
 -- message with that slot has the voucher.
-use Rattle.std.proofs.Common.{◌≡◌, ◌≢◌, ℕ, zero, suc, ◌+◌, ◌-◌, ◌<◌, ◌≤◌, ◌==◌, nat_lt, ◌&&◌, ◌||◌, Bool, true, false, cond, List, [], ◌∷◌, refl, arith, sym, ap, ◌∙◌, length, get_or, subst, Option, Some, None}
+use Rattle.std.proofs.Common.{◌≡◌, ℕ, zero, suc, ◌+◌, ◌-◌, ◌<◌, ◌==◌, nat_lt, ◌||◌, Bool, true, false, cond, List, [], ◌∷◌, refl, arith, sym, ap, ◌∙◌, length, get_or, subst, Option, Some, None}
 use Rattle.std.specs.List.{list_any}
 use Rattle.std.proofs.lemmas.Grind.{common_steps}
 use Rattle.std.proofs.Math.ListN.{set}
@@ -12,10 +12,10 @@ use Rattle.vch_table.specs.declared.table.Met.{Met}
 use Rattle.vch_table.specs.Vouchers.{Vouchers, indices_of, meets, references_of}
 use Rattle.vch_ports.specs.Names.{by_slot}
 use Rattle.vch_model.specs.declared.lists.Scenario.{Scenario}
-use Rattle.vch_machine.specs.State.{Handles, Named, Message, Machine, Tasked, tasked, idle}
+use Rattle.vch_machine.specs.State.{Handles, Named, Message, Machine, Tasked, idle}
 use Rattle.vch_machine.specs.Naming.{name_of, same_handle, same_handles, option_same, task_knows, is_known}
 use Rattle.vch_legal.proofs.PutSpots.{handles_eq}
-use Rattle.vch_state.specs.Plain.{Plain, Part, SlotName, SlotMessage, part_of, idle_part}
+use Rattle.vch_state.specs.Plain.{Plain, Part, SlotName, SlotMessage, idle_part}
 use Rattle.vch_state.specs.Shape.{Shape, Indices, Pairwise, Optional, IsMap, HasMap, IsSlotOf, IsName, IsMessage, slots_of, bit, is_slot, named_by, queued_by, referred_by}
 use Rattle.vch_state.proofs.Held.{cases_of}
 use Rattle.vch_state.proofs.Maps.{maps_equal, handles_equal}

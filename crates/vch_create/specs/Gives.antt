@@ -7,7 +7,6 @@ use Rattle.vch_table.specs.Vouchers.{less, meets}
 use Rattle.vch_ports.specs.declared.space.Added.{Added}
 use Rattle.vch_ports.specs.Names.{Names, Adds}
 use Rattle.vch_state.specs.declared.frame.Frame.{Frame}
-use Rattle.vch_state.specs.declared.frame.KeyIndex.{KeyIndex}
 use Rattle.vch_state.specs.Plain as plain
 use Rattle.vch_state.specs.Shape.{Indices}
 use Rattle.vch_create.specs.Formed.{items}
