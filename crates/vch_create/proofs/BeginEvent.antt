@@ -130,7 +130,7 @@ module _ (p : Parts) (t : ℕ) (task : is_task p.scenario t ≡ true) (r : Reach
       pub range : (0 < t) × (t - 1 < length (plain_of p).tasks)
       range = in_parts p.scenario (keys.User ∷ []) (plain_of p) m t s task
 
-      pub inside : t - 1 < length m.tasks
+      inside : t - 1 < length m.tasks
       inside = omega (arith, range.1, s.shape.long)
 
       pub own_is : (part_of (plain_of p) t).frame ≡ None
