@@ -25,6 +25,11 @@ pub mod Tables
 pub mod Kept
 pub mod Placed
 pub mod References
+pub mod NamesLess
+pub mod SlotsLess
+pub mod Still
+pub mod Dropped
 pub mod PlaceEvent
+pub mod DropEvent
 pub mod BeginCalls
 pub mod Calling
