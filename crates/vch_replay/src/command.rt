@@ -1,5 +1,7 @@
 ghost use Rattle.std.specs.Prelude.{◌≡◌, ◌↔◌, IsTrue, codes, map, string_bytes};
-ghost use Rattle.vch_replay.specs.Commands.{command_of, command_in};
+ghost use Rattle.vch_replay.specs.Commands.{command_of, command_in, seeded};
+
+use vch_text::parse_u64;
 
 /// What the words ask for.
 #[derive(Clone, Copy, Debug, PartialEq, Eq)]
@@ -8,6 +10,8 @@ pub enum Command {
     Check,
     /// The report of a scenario's run in turn.
     Play,
+    /// The report of a scenario's run by the schedule of a seed.
+    PlaySeed { seed: u64 },
     /// One line for each record of a recipe array.
     Recipe,
 }
@@ -29,12 +33,24 @@ fn command_in(word: &str) -> Option<Command>
     None
 }
 
+/// The command of two words: a run by a seed, which is a decimal number below 2 to the 64 without leading zeros.
+fn seeded(word: &str, seed: &str) -> Option<Command>
+    ensures { result ≡ seeded word.now seed.now }
+{
+    if word != "play" {
+        return None;
+    }
+    let seed = parse_u64(seed.as_bytes())?;
+    Some(Command::PlaySeed { seed })
+}
+
 /// The command of all words, or none where they are no form.
 pub fn command_of(words: &[String]) -> Option<Command>
     ensures { result ≡ command_of (map string_bytes words.now) }
 {
     match words {
         [word] => command_in(word.as_str()),
+        [word, seed] => seeded(word.as_str(), seed.as_str()),
         _ => None,
     }
 }
