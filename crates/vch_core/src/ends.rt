@@ -1,4 +1,4 @@
-ghost use Rattle.vch_state.specs.UserOnly.{IsUserOnly};
+ghost use Rattle.vch_model.specs.UserOnly.{IsUserOnly};
 ghost use Rattle.vch_core.specs.Runs.{EndsInTurn};
 
 use crate::turn::{start_cursor, turn};

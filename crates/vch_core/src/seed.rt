@@ -1,6 +1,6 @@
 ghost use Rattle.std.specs.Prelude.{◌≡◌, ◌<◌, ◌≤◌, ◌++◌, ◌∷◌, [], length};
 ghost use Rattle.vch_machine.specs.Schedules as schedules;
-ghost use Rattle.vch_state.specs.UserOnly.{IsUserOnly};
+ghost use Rattle.vch_model.specs.UserOnly.{IsUserOnly};
 ghost use Rattle.vch_core.specs.Runs.{EndsBySeed};
 ghost use Rattle.vch_core.specs.Turning.{AreReady, CanGo, Draws, IsDraw};
 

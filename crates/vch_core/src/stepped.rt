@@ -1,7 +1,7 @@
 ghost use Rattle.std.specs.Prelude.{◌≡◌, ◌<◌, length, Some, None, IsTrue};
 ghost use Rattle.vch_model.specs.Lines.{is_task};
 ghost use Rattle.vch_state.specs.Reached.{MayFollow};
-ghost use Rattle.vch_state.specs.UserOnly.{IsUserOnly};
+ghost use Rattle.vch_model.specs.UserOnly.{IsUserOnly};
 ghost use Rattle.vch_core.specs.Steps.{HasNext, IsFrameNext, Steps};
 
 use crate::stub::create_event;

@@ -2,7 +2,7 @@ ghost use Rattle.std.specs.Prelude.{◌≡◌, ◌<◌, ◌≤◌, ◌+◌, ◌�
 ghost use Rattle.vch_model.specs.Lines.{is_task};
 ghost use Rattle.vch_state.specs.Plain.{frame_of, begun_of};
 ghost use Rattle.vch_state.specs.Reached.{Reached, Follows, MayFollow, IsNext, value_kind};
-ghost use Rattle.vch_state.specs.UserOnly.{IsUserOnly};
+ghost use Rattle.vch_model.specs.UserOnly.{IsUserOnly};
 ghost use Rattle.vch_core.specs.Steps.{HasNext};
 ghost use Rattle.vch_core.specs.Turning.{IsResting, Goes};
 

@@ -1,7 +1,7 @@
 ghost use Rattle.std.specs.Prelude.{◌≡◌, ◌<◌, ◌≤◌, ◌+◌, ◌-◌, ◌^◌, ◌∷◌, [], ℕ, length, replicate, slice_index_or, Some, None, IsTrue, true};
 ghost use Rattle.vch_model.specs.Lines.{is_task, lines_until};
 ghost use Rattle.vch_state.specs.Reached.{Reached};
-ghost use Rattle.vch_state.specs.UserOnly.{IsUserOnly};
+ghost use Rattle.vch_model.specs.UserOnly.{IsUserOnly};
 ghost use Rattle.vch_core.specs.Turning.{IsTurn, IsCursor, IsPassed, CanGo, Goes, Turns, rewound, IsLowest, OfFrame, IsTaskOrNone, IsWaiting, AreOfTasks, lines_of_task};
 
 use crate::stepped::event;

@@ -34,7 +34,7 @@ use Rattle.vch_state.specs.Pictures.{receipts_of, frame_claimed, frame_holds, li
 use Rattle.vch_state.specs.Bounds.{rank, makes, open_of, flying_of}
 use Rattle.vch_state.specs.Stands.{StandsFor}
 use Rattle.vch_state.specs.Reached.{plain_of, parts_in, IsState, IsEvent, IsNext, Follows, Reached}
-use Rattle.vch_state.specs.UserOnly.{IsUserOnly, AsksUserOnly}
+use Rattle.vch_model.specs.UserOnly.{IsUserOnly, AsksUserOnly}
 use Rattle.vch_state.proofs.Glue.{own_frame, in_parts, from_reached}
 use Rattle.vch_state.proofs.Maps.{map_empty}
 use Rattle.vch_create.specs.Begins.{IsCreateOf, is_answered, answer}

@@ -7,7 +7,7 @@ use Rattle.vch_model.specs.declared.call.Line.{Line}
 use Rattle.vch_model.specs.declared.lists.Scenario.{Scenario}
 use Rattle.vch_model.specs.Lines.{line_at, lines_from, lines_of}
 use Rattle.vch_machine.specs.Next.{call_in, nth_call}
-use Rattle.vch_state.specs.UserOnly.{IsUserCall, IsUserOnly}
+use Rattle.vch_model.specs.UserOnly.{IsUserCall, IsUserOnly}
 use Rattle.vch_state.proofs.OfTasks.{item_of}
 
 abbrev IsUserLine : ℕ × Line → Type 0

@@ -23,7 +23,8 @@ use Rattle.vch_state.specs.declared.frame.Claiming.{Claiming}
 use Rattle.vch_state.specs.declared.frame.KeyIndex.{KeyIndex}
 use Rattle.vch_state.specs.Plain.{Plain, part_of}
 use Rattle.vch_state.specs.Shape.{Indices, Shape, Pairwise, IsIndexOf, IsLet, IsFrame, IsTask, slots_of, keys_left}
-use Rattle.vch_state.specs.UserOnly.{AsksUserOnly, FormsUser}
+use Rattle.vch_model.specs.UserOnly.{AsksUserOnly}
+use Rattle.vch_state.specs.UserOnly.{FormsUser}
 use Rattle.vch_state.specs.Pictures.{picture_of}
 use Rattle.vch_state.specs.Bounds.{rank, makes, open_of, TaskSpent}
 use Rattle.vch_state.specs.Stands.{StandsFor, KeyStands}

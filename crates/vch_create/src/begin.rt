@@ -5,7 +5,7 @@ ghost use Rattle.vch_model.specs.Lines.{is_task};
 ghost use Rattle.vch_machine.specs.Next.{nth_call};
 ghost use Rattle.vch_state.specs.Plain.{frame_of, begun_of};
 ghost use Rattle.vch_state.specs.Reached.{Reached, Follows, IsNext};
-ghost use Rattle.vch_state.specs.UserOnly.{IsUserOnly};
+ghost use Rattle.vch_model.specs.UserOnly.{IsUserOnly};
 ghost use Rattle.vch_state.specs.declared.frame.Claiming.{Claiming};
 ghost use Rattle.vch_create.specs.Begins.{IsCreateOf, is_answered, answer, demand_of};
 

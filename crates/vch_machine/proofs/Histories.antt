@@ -1,11 +1,10 @@
 -- The worked histories, checked entry by entry.
-use Rattle.std.proofs.Common.{lit≤, ◌≡◌, [], ◌∷◌, refl, inl}
+use Rattle.std.proofs.Common.{lit≤, refl, inl}
 use Rattle.std.specs.Fmt.{digits}
 use Rattle.hex.specs.Hex.{encode_with}
 use Rattle.vch_base.specs.Words.{word}
 use Rattle.vch_recipe.specs.Recipes.{word_at}
 use Rattle.vch_model.specs.Eval.{create, eval_all}
-use Rattle.vch_model.specs.Legal.{Legal, Ended, Whole}
 use Rattle.vch_model.specs.Text.{report_text}
 use Rattle.vch_machine.specs.Examples as examples
 use Rattle.vch_machine.specs.Histories.{IsWhole, AreWhole, Texts}

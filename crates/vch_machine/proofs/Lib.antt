@@ -1,5 +1,6 @@
 pub mod Walks
 pub mod Others
+pub mod WithoutWant
 pub mod Rows
 mod FullList
 pub mod Histories

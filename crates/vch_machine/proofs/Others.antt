@@ -1,33 +1,16 @@
 -- An event of one task never changes which event of another is next.
-use Rattle.std.proofs.Common.{◌≡◌, ◌≢◌, ℕ, zero, suc, ◌+◌, ◌-◌, Bool, List, [], ◌∷◌, ◌++◌, refl, true, false, not, ◌&&◌, ◌||◌, sym, ap, ◌∙◌, subst, length, get_or, Some, None, Option, Ok, Err, Result}
+use Rattle.std.proofs.Common.{◌≡◌, ◌≢◌, ℕ, zero, suc, ◌-◌, Bool, List, [], ◌∷◌, refl, sym, ap, ◌∙◌, get_or, Some, None, Option}
 use Rattle.std.proofs.Math.ListN.{get_or-map, set}
 use Rattle.std.proofs.lemmas.List.{get_or-set_other}
-use Rattle.std.specs.Prelude.{is_some, if◌then◌else◌, ◌==◌, nat_lt, ℤ, pos}
-use Rattle.vch_base.specs.declared.key.Key.{Key}
-use Rattle.vch_base.specs.declared.key.Key.TheVariants as keys
-use Rattle.vch_base.specs.declared.value.Value.{Value}
 use Rattle.vch_model.specs.declared.call.Call.{Call}
-use Rattle.vch_model.specs.declared.call.Call.TheVariants as calls
-use Rattle.vch_model.specs.declared.call.Word.{Word}
-use Rattle.vch_model.specs.declared.entry.Entry.TheVariants as entries
-use Rattle.vch_model.specs.declared.entry.Reply.{Reply}
 use Rattle.vch_model.specs.declared.lists.Scenario.{Scenario}
-use Rattle.vch_model.specs.Lines.{phases_in, is_task}
-use Rattle.vch_base.specs.declared.kind.Kind.TheVariants as kinds
+use Rattle.vch_model.specs.Lines.{phases_in}
 use Rattle.vch_machine.proofs.Walks.{Walk, still_claim, event_walked}
 use Rattle.vch_model.specs.declared.entry.Entry.{Entry}
-use Rattle.vch_machine.specs.State.{Keyed, Living, Pool, Handles, Place, Claim, Frame, Tasked, Tally, Machine, Named, Message, idle, tasked, with_tasked, handle_of, same_place}
-use Rattle.vch_model.specs.Replies.{refused}
-use Rattle.vch_base.specs.declared.kind.Kind.{Kind}
-use Rattle.vch_machine.specs.Beginning.{begun_one, fresh_frame, key_if, or_want, dequeued, enqueued, is_full, begin_recv, begin_send, begin_call, begin_line}
-use Rattle.vch_machine.specs.Events.{on_formed, on_place, on_lets, on_the_claim, frame_event, event_of, event}
-use Rattle.vch_machine.specs.Frames.{tallied, closed, with_frame, noted, replied, refuse}
-use Rattle.vch_machine.specs.Leaving.{more_claims, one_ask, claim_if, do_let_go, released, do_ask, do_recheck}
-use Rattle.vch_machine.specs.Making.{one_refer, asked_by, minted, race_claim, back_claim, on_claim, on_frame, on_task, on_claims, given_receipt, made_at, make_done, make_asked, do_make, do_refer, Asked}
-use Rattle.vch_machine.specs.Naming.{name_of, with_name, option_places}
+use Rattle.vch_machine.specs.State.{Keyed, Living, Pool, Handles, Place, Claim, Frame, Tasked, Tally, Machine, Named, idle, tasked, with_tasked}
+use Rattle.vch_machine.specs.Events.{event}
+use Rattle.vch_machine.specs.Making.{on_claim, on_frame, on_task, on_claims}
 use Rattle.vch_machine.specs.Next.{nth_call, formed_next, lets_next, frame_next, task_next, next_kind}
-use Rattle.vch_machine.specs.Placing.{place_create, moved_name, place_send, place_recv, do_place}
-use Rattle.vch_machine.specs.Working.{work_done, Worked}
 
 -- what decides which event of a task is next: no queue, and of a claim only its answer
 abbrev pub still : Tasked → Tasked

@@ -1,7 +1,8 @@
 -- One walk over all events: a relation of two states that holds where the task itself is replaced, a queue is, claims are changed
--- but for their answers, or values, history and tally are, and that joins, holds of every event of the task.
+-- but for their answers, or values and tally are and entries are appended, and that joins, holds of every event of the task.
 use Rattle.std.proofs.Common.{◌≡◌, ℕ, ◌+◌, ◌≤◌, Bool, List, [], ◌∷◌, ◌++◌, refl, true, false, not, ◌&&◌, ◌||◌, arith, subst, length, Some, None, Option, Ok, Err, Result}
 use Rattle.std.specs.Prelude.{is_some, if◌then◌else◌, ◌==◌, nat_lt, ℤ, pos}
+use Rattle.vch_base.specs.Keys.{number_of}
 use Rattle.vch_base.specs.declared.key.Key.{Key}
 use Rattle.vch_base.specs.declared.key.Key.TheVariants as keys
 use Rattle.vch_base.specs.declared.value.Value.{Value}
@@ -16,11 +17,11 @@ use Rattle.vch_model.specs.declared.entry.Entry.{Entry}
 use Rattle.vch_model.specs.declared.entry.Entry.TheVariants as entries
 use Rattle.vch_model.specs.declared.entry.Reply.{Reply}
 use Rattle.vch_model.specs.declared.lists.Scenario.{Scenario}
-use Rattle.vch_machine.specs.State.{Keyed, Handles, Place, Living, Pool, Claim, Frame, Tasked, Tally, Machine, Message, tasked, with_tasked, handle_of, same_place}
+use Rattle.vch_machine.specs.State.{Keyed, Handles, Place, Living, Pool, Claim, Frame, Tasked, Tally, Machine, Message, tasked, with_tasked, handle_of, same_place, living_at}
 use Rattle.vch_machine.specs.Beginning.{begun_one, fresh_frame, key_if, or_want, dequeued, enqueued, is_full, begin_recv, begin_send, begin_call, begin_line}
 use Rattle.vch_machine.specs.Events.{on_formed, on_place, on_lets, on_the_claim, frame_event, event_of, event}
-use Rattle.vch_machine.specs.Frames.{tallied, closed, with_frame, noted, replied, refuse}
-use Rattle.vch_machine.specs.Leaving.{more_claims, one_ask, claim_if, do_let_go, released, do_ask, do_recheck}
+use Rattle.vch_machine.specs.Frames.{tallied, closed, with_frame, replied, refuse}
+use Rattle.vch_machine.specs.Leaving.{more_claims, one_ask, made_of, claim_if, do_let_go, released, do_ask, do_recheck}
 use Rattle.vch_machine.specs.Making.{one_refer, asked_by, minted, race_claim, back_claim, on_claims, given_receipt, made_at, make_done, make_asked, do_make, do_refer, Asked}
 use Rattle.vch_machine.specs.Naming.{name_of, with_name, option_places}
 use Rattle.vch_machine.specs.Next.{nth_call, next_kind}
@@ -45,6 +46,17 @@ back_still q c = by_test (same_place c.place q)
     by_test true = refl
     by_test false = refl
 
+pub record PastWalk (t : ℕ) (R : Machine → Machine → Type 0) : Type 0 where
+  pub self_ : (m : Machine) → R m m
+  pub joined : (m n o : Machine) → R m n → R n o → R m o
+  pub own : (m : Machine) (x : Tasked) → (tasked m t).begun ≤ x.begun → R m (with_tasked m t x)
+  pub queued : (m : Machine) (u : ℕ) (queue : List Message) → R m (with_tasked m u (record (tasked m u) { queue = queue }))
+  pub claims : (m : Machine) (g : Claim → Claim) → ((c : Claim) → still_claim (g c) ≡ still_claim c) → R m (on_claims g m)
+  pub others : (m : Machine) (live : List Living) (pools : Keyed Pool) (newer : List Entry) (tally : Tally)
+      → phases_in (newer ++ m.past) ≡ phases_in m.past
+      → R m (record m { live = live; pools = pools; past = newer ++ m.past; tally = tally })
+
+-- the same for a relation that holds whatever the history is, as long as its phases are
 pub record Walk (t : ℕ) (R : Machine → Machine → Type 0) : Type 0 where
   pub self_ : (m : Machine) → R m m
   pub joined : (m n o : Machine) → R m n → R n o → R m o
@@ -54,12 +66,22 @@ pub record Walk (t : ℕ) (R : Machine → Machine → Type 0) : Type 0 where
   pub others : (m : Machine) (live : List Living) (pools : Keyed Pool) (past : List Entry) (tally : Tally) → phases_in past ≡ phases_in m.past
       → R m (record m { live = live; pools = pools; past = past; tally = tally })
 
+pub past_walk : (t : ℕ) (R : Machine → Machine → Type 0) → Walk t R → PastWalk t R
+past_walk t R w = record {
+  self_ = w.self_;
+  joined = w.joined;
+  own = w.own;
+  queued = w.queued;
+  claims = w.claims;
+  others = λ m live pools newer tally e. w.others m live pools (newer ++ m.past) tally e;
+}
+
 -- the same where there may be no state
 abbrev pub May : (Machine → Type 0) → Option Machine → Type 0
 May R None = Unit {0}
 May R (Some n) = R n
 
-module _ (t : ℕ) (R : Machine → Machine → Type 0) (w : Walk t R) where
+module _ (t : ℕ) (R : Machine → Machine → Type 0) (w : PastWalk t R) where
   same_count : (n : ℕ) → n ≤ n
   same_count n = omega arith
 
@@ -68,7 +90,7 @@ module _ (t : ℕ) (R : Machine → Machine → Type 0) (w : Walk t R) where
   framed m f = w.own m (record (tasked m t) { frame = f }) (same_count (tasked m t).begun)
 
   answered : (m n : Machine) (call : Call) (r : Reply) → R m n → R m (replied n t call r)
-  answered m n call r l = w.joined m n (replied n t call r) l (w.others n n.live n.pools (entries.Call t (tasked n t).begun (word_of call) r ∷ n.past) n.tally refl)
+  answered m n call r l = w.joined m n (replied n t call r) l (w.others n n.live n.pools (entries.Call t (tasked n t).begun (word_of call) r ∷ []) n.tally refl)
 
   refuses : (m : Machine) (f : Frame) (call : Call) (code : ℤ) → R m (refuse m t f call code)
   refuses m f call code = answered m (with_frame m t (closed (record f { forming = None; keys = []; lets = f.lets ++ option_places f.forming }))) call (refused code) (framed m _)
@@ -90,7 +112,7 @@ module _ (t : ℕ) (R : Machine → Machine → Type 0) (w : Walk t R) where
 
   made : (m : Machine) (f : Frame) (k : Key) (x : Value) (found : Option ℕ) → R m (made_at m t f k x found)
   made m f k x (Some h) = given m f _
-  made m f k x None = w.joined m (minted m k x) _ (w.others m (minted m k x).live (minted m k x).pools (minted m k x).past m.tally refl) (given (minted m k x) f _)
+  made m f k x None = w.joined m (minted m k x) _ (w.others m (minted m k x).live (minted m k x).pools (entries.Made (number_of k) x ∷ []) m.tally refl) (given (minted m k x) f _)
 
   make : (m : Machine) (f : Frame) (v : Handles) (call : Call) (k : Key) (r : Result (Option Value) ℤ) → R m (make_done m t f v call k r)
   make m f v call k (Err code) = refuses m f call code
@@ -105,7 +127,7 @@ module _ (t : ℕ) (R : Machine → Machine → Type 0) (w : Walk t R) where
   makes sc want m f v call = may_either m _ _ want (refuses m f call (pos 6)) (asks m f v call (asked_by sc m t f v call))
 
   tallies : (g : Tally → Tally) (m n : Machine) → R m n → R m (tallied g n)
-  tallies g m n l = w.joined m n (tallied g n) l (w.others n n.live n.pools n.past (g n.tally) refl)
+  tallies g m n l = w.joined m n (tallied g n) l (w.others n n.live n.pools [] (g n.tally) refl)
 
   refers : (m : Machine) (f : Frame) (v : Handles) (call : Call) (q : Place) → R m (do_refer m t f v call q)
   refers m f v call q = tallies one_refer m _ (w.joined m (on_claims (back_claim q) m) _ (w.claims m (back_claim q) (back_still q)) (framed (on_claims (back_claim q) m) _))
@@ -114,7 +136,7 @@ module _ (t : ℕ) (R : Machine → Machine → Type 0) (w : Walk t R) where
   lets_go m f q rest = tallies (more_claims (claim_if (with_frame m t (Some (record f { lets = rest }))) q)) m _ (framed m _)
 
   takes_back : (m : Machine) (q : Place) → R m (released m q)
-  takes_back m q = w.others m (released m q).live (released m q).pools (released m q).past m.tally refl
+  takes_back m q = w.others m (released m q).live (released m q).pools (entries.Released (made_of (living_at m.live q)) ∷ []) m.tally refl
 
   questions : (m : Machine) (f : Frame) (c : Claim) → R m (do_ask m t f c)
   questions m f c = tallies one_ask m _ (either m _ _ c.raced (framed m _) (w.joined m (released m c.place) _ (takes_back m c.place) (framed (released m c.place) _)))
@@ -240,9 +262,13 @@ module _ (t : ℕ) (R : Machine → Machine → Type 0) (w : Walk t R) where
   unfolding event
   walked sc want m = may_either m _ _ (is_task sc t) (kinds_of sc want m (tasked m t).frame (next_kind sc m t)) tt
 
-  pub event_walked : (sc : Scenario) (want : Bool) (m n : Machine) → event sc want m t ≡ Some n → R m n
-  event_walked sc want m n e = of_some (event sc want m t) e (walked sc want m)
+  pub past_walked : (sc : Scenario) (want : Bool) (m n : Machine) → event sc want m t ≡ Some n → R m n
+  past_walked sc want m n e = of_some (event sc want m t) e (walked sc want m)
     where
       of_some : (o : Option Machine) → o ≡ Some n → May (R m) o → R m n
       of_some None k l = cc
       of_some (Some x) k l = let g : x ≡ n = cc in subst (λ (y : Machine). R m y) g l
+
+pub event_walked : (t : ℕ) (R : Machine → Machine → Type 0) → Walk t R
+    → (sc : Scenario) (want : Bool) (m n : Machine) → event sc want m t ≡ Some n → R m n
+event_walked t R w sc want m n e = past_walked t R (past_walk t R w) sc want m n e

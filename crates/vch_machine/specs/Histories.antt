@@ -1,6 +1,5 @@
 -- Each worked history is a whole one of its scenario, and two texts.
-use Rattle.std.specs.Prelude.{◌≡◌, ℕ, List, [], ◌∷◌, ◌++◌, codes, map}
-use Rattle.std.specs.List.{flat_map}
+use Rattle.std.specs.Prelude.{◌≡◌, ℕ, List, ◌++◌, codes}
 use Rattle.vch_model.specs.Legal.{Whole}
 use Rattle.vch_model.specs.Text.{Text, newline}
 use Rattle.vch_machine.specs.Examples as examples

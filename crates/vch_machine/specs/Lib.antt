@@ -9,6 +9,7 @@ pub mod Placing
 pub mod Leaving
 pub mod Events
 pub mod Schedules
+pub mod PlainRuns
 pub mod Examples
 pub mod Worked
 pub mod Histories

@@ -17,3 +17,4 @@ pub mod Canonical
 pub mod Built
 pub mod Plain
 pub mod PlainRun
+pub mod UserOnly

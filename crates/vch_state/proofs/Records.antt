@@ -8,7 +8,7 @@ use Rattle.vch_recipe.specs.declared.recipe.Recipe.{Recipe}
 use Rattle.vch_machine.specs.State.{is_empty}
 use Rattle.vch_legal.proofs.Creates.{behind}
 use Rattle.vch_legal.proofs.Forming.{rest_of}
-use Rattle.vch_state.specs.UserOnly.{AsksUserOnly}
+use Rattle.vch_model.specs.UserOnly.{AsksUserOnly}
 use Rattle.vch_state.proofs.Held.{cases_of}
 
 -- a whole record has a header

@@ -1,4 +1,4 @@
-use Rattle.vch_machine.proofs.Histories.{are_whole, texts}
+use Rattle.vch_machine.proofs.Histories.{are_whole}
 use Rattle.vch_machine.proofs.worked_histories.Goals as goal
 
 pub returns-clause-whole : goal.returns-clause-whole

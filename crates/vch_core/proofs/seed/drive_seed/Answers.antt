@@ -1,5 +1,5 @@
 use Rattle.std.proofs.Common.{length, sym, subst}
-use Rattle.vch_state.specs.UserOnly.{IsUserOnly}
+use Rattle.vch_model.specs.UserOnly.{IsUserOnly}
 use Rattle.vch_core.proofs.Framed.{not_ended, when_ended}
 use Rattle.vch_core.proofs.Ending.{seed_ends_here, never_spent}
 use Rattle.vch_core.proofs.Finishing.{drawing_first, drawing_more}
