@@ -13,3 +13,4 @@ pub mod PlainRuns
 pub mod Examples
 pub mod Worked
 pub mod Histories
+pub mod EndedRuns

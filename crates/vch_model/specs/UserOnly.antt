@@ -9,8 +9,11 @@ use Rattle.vch_model.specs.declared.call.Line.{Line}
 use Rattle.vch_model.specs.declared.lists.Scenario.{Scenario}
 
 -- a record of a manager's command, of a key whose manager is not user data's, or of all keys
+abbrev pub asks_of : ℕ → ℕ → Bool
+asks_of key command = nat_lt 5 command && ((key == 2) || ((key == 3) || (key == 4294967295)))
+
 abbrev pub asks_other : Recipe → Bool
-asks_other r = nat_lt 5 r.command && ((r.key == 2) || ((r.key == 3) || (r.key == 4294967295)))
+asks_other r = asks_of r.key r.command
 
 -- the bytes begin with these whole records, and this is behind them
 abbrev pub Begins : List ℕ → List Recipe → List ℕ → Type 0
@@ -34,6 +37,9 @@ IsUserCall calls.Ledger = ⊥
 IsUserCall calls.Assertions = ⊥
 IsUserCall calls.Live = ⊥
 
+abbrev pub IsUserLines : List Line → Type 0
+IsUserLines lines = AllByRecursion (λ (l : Line). IsUserCall l.call) lines
+
 -- each call of the scenario is one of these
 abbrev pub IsUserOnly : Scenario → Type 0
-IsUserOnly sc = AllByRecursion (λ lines. AllByRecursion (λ (l : Line). IsUserCall l.call) lines) sc.phases
+IsUserOnly sc = AllByRecursion IsUserLines sc.phases

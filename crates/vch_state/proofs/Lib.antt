@@ -38,3 +38,4 @@ pub mod LiveCounts
 pub mod PhaseEnds
 pub mod Loops
 pub mod RunOn
+pub mod UserRecords

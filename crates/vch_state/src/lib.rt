@@ -66,6 +66,7 @@ mod state;
 mod tally;
 #[cfg(test)]
 mod tests;
+mod user_only;
 mod value;
 
 pub use frame::{Claiming, Frame, KeyIndex, KeyReceipt, Lets};
@@ -77,3 +78,4 @@ pub use script::Script;
 pub use spaces::Spaces;
 pub use state::Core;
 pub use tally::Tally;
+pub use user_only::is_user_only;
