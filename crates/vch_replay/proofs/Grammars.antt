@@ -8,7 +8,7 @@ use Rattle.vch_recipe.specs.Cuts.{IsOutcome, IsUnlessMemory}
 use Rattle.vch_recipe.proofs.Outcomes.{one_outcome}
 use Rattle.vch_model.specs.declared.lists.Scenario.{Scenario}
 use Rattle.vch_model.specs.Scenarios.{IsScenario}
-use Rattle.vch_model.specs.Built.{CanRun}
+use Rattle.vch_model.specs.UserOnly.{IsUserOnly}
 use Rattle.vch_scenario.proofs.OneAnswer.{never_both, one_scenario}
 use Rattle.vch_replay.specs.declared.command.Command.{Command}
 use Rattle.vch_replay.specs.declared.command.Command.TheVariants as commands
@@ -17,9 +17,9 @@ use Rattle.vch_replay.specs.Run.{IsIn, Refuses, IsScenarioFault, IsNotBuilt, IsA
 scenario_apart : (input line : List ℕ) (sc : Scenario) → IsScenario input sc → IsScenarioFault input line → ⊥
 scenario_apart input line sc is f = never_both input sc f.0 f.1 is f.2
 
-play_apart : (input line : List ℕ) (sc : Scenario) → IsScenario input sc → CanRun sc → IsScenarioFault input line ⊎ IsNotBuilt input line → ⊥
+play_apart : (input line : List ℕ) (sc : Scenario) → IsScenario input sc → IsUserOnly sc → IsScenarioFault input line ⊎ IsNotBuilt input line → ⊥
 play_apart input line sc is can (inl f) = scenario_apart input line sc is f
-play_apart input line sc is can (inr n) = n.2 (subst CanRun (one_scenario input sc n.0 is n.1) can)
+play_apart input line sc is can (inr n) = n.2 (subst IsUserOnly (one_scenario input sc n.0 is n.1) can)
 
 differs : (input : List ℕ) (records : List Recipe) (fault : RecipeFault) → (fault ≡ recipe_faults.NoMemory → ⊥) → Recipes input records → IsOutcome input (Err fault) → ⊥
 differs input records fault other is f = by (one_outcome input (Ok records) (Err fault) is f (λ e. other (cc)))
@@ -37,4 +37,5 @@ array_apart input records recipe_faults.NoMemory is f = f
 pub apart : (command : Command) (line input : List ℕ) → IsIn command input → Refuses command input line → ⊥
 apart commands.Check line input is refused = scenario_apart input line is.0 is.1 refused
 apart commands.Play line input is refused = play_apart input line is.0 is.1 is.2 refused
+apart (commands.PlaySeed seed) line input is refused = play_apart input line is.0 is.1 is.2 refused
 apart commands.Recipe line input is refused = array_apart input is.0 refused.0 is.1 refused.1

@@ -2,5 +2,4 @@ pub mod Written
 pub mod Joined
 pub mod Ends
 pub mod Grammars
-pub mod PlainReports
-pub mod PlainText
+pub mod Played

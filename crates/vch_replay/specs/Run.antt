@@ -1,5 +1,5 @@
 -- What the top call promises.
-use Rattle.std.specs.Prelude.{◌≡◌, ◌≤◌, ◌<◌, ◌⊎◌, ℕ, List, length, take, Option, Some, None}
+use Rattle.std.specs.Prelude.{◌≡◌, ◌≤◌, ◌<◌, ◌⊎◌, ℕ, List, length, take, reverse, Option, Some, None}
 use Rattle.vch_base.specs.Stream.{Appends}
 use Rattle.vch_recipe.specs.Recipes.{Recipes}
 use Rattle.vch_recipe.specs.Cuts.{IsHeaderCut, IsContentCut}
@@ -10,9 +10,10 @@ use Rattle.vch_model.specs.declared.entry.Entry.{Entry}
 use Rattle.vch_model.specs.declared.lists.Scenario.{Scenario}
 use Rattle.vch_model.specs.Scenarios.{IsScenario}
 use Rattle.vch_model.specs.Canonical.{Canon}
-use Rattle.vch_model.specs.Built.{CanRun}
+use Rattle.vch_model.specs.UserOnly.{IsUserOnly}
 use Rattle.vch_model.specs.Legal.{Whole}
-use Rattle.vch_model.specs.Plain.{history_of}
+use Rattle.vch_machine.specs.PlainRuns.{TellNoWant, IsPlainRun}
+use Rattle.vch_machine.specs.EndedRuns.{IsInTurn, IsBySeed}
 use Rattle.vch_model.specs.Text.{Text}
 use Rattle.vch_scenario.specs.Faults as scenario_faults
 use Rattle.vch_scenario.specs.declared.fault.Why.{Why}
@@ -27,19 +28,36 @@ use Rattle.vch_replay.specs.declared.outcome.Outcome.TheVariants as outcomes
 abbrev pub IsCanonical : List ℕ → List ℕ → Type 0
 IsCanonical input text = (sc : Scenario) × IsScenario input sc × (text ≡ Canon sc)
 
--- the text is the report of one legal and whole history of the scenario: of its run in turn
-pub record IsReportOf (sc : Scenario) (text : List ℕ) (history : List Entry) : Type 0 where
-  pub built : CanRun sc
+-- the text is the report of one legal and whole history of the scenario
+pub record IsReportOf (sc : Scenario) (history : List Entry) (text : List ℕ) : Type 0 where
   pub whole : Whole history sc
-  pub in_turn : history ≡ history_of sc
   pub text_is : text ≡ Text history sc
 
-abbrev pub IsRunReport : Scenario → List ℕ → Type 0
-IsRunReport sc text = (history : List Entry) × IsReportOf sc text history
+-- of its run in turn; where no reply says that memory was wanted, that is the plain run
+pub record IsTurnReport (sc : Scenario) (text : List ℕ) : Type 0 where
+  pub history : List Entry
+  pub report : IsReportOf sc history text
+  pub in_turn : IsInTurn sc history
+  pub plain : TellNoWant (reverse history) → IsPlainRun sc history
+
+-- of its run by the schedule of a seed
+pub record IsSeedReport (seed : ℕ) (sc : Scenario) (text : List ℕ) : Type 0 where
+  pub history : List Entry
+  pub report : IsReportOf sc history text
+  pub by_seed : IsBySeed seed sc history
+
+-- a run in turn, or by a seed
+abbrev pub playing : Option ℕ → Command
+playing None = commands.Play
+playing (Some seed) = commands.PlaySeed seed
+
+abbrev pub IsPlayed : Option ℕ → Scenario → List ℕ → Type 0
+IsPlayed None sc text = IsTurnReport sc text
+IsPlayed (Some seed) sc text = IsSeedReport seed sc text
 
 -- the text is such a report of the scenario that the input gives
-abbrev pub IsReport : List ℕ → List ℕ → Type 0
-IsReport input text = (sc : Scenario) × IsScenario input sc × IsRunReport sc text
+abbrev pub IsReport : Option ℕ → List ℕ → List ℕ → Type 0
+IsReport seed input text = (sc : Scenario) × IsScenario input sc × IsUserOnly sc × IsPlayed seed sc text
 
 -- the input is an array of these records
 abbrev pub IsArray : List ℕ → List Recipe → Type 0
@@ -52,7 +70,8 @@ IsListing input text = (records : List Recipe) × IsArray input records × (text
 -- what a command writes where the input is in its grammar
 abbrev pub Answers : Command → List ℕ → List ℕ → Type 0
 Answers commands.Check input text = IsCanonical input text
-Answers commands.Play input text = IsReport input text
+Answers commands.Play input text = IsReport None input text
+Answers (commands.PlaySeed seed) input text = IsReport (Some seed) input text
 Answers commands.Recipe input text = IsListing input text
 
 -- the line tells the first fault of the scenario's text
@@ -61,7 +80,7 @@ IsScenarioFault input line = (at : ℕ) × (why : Why) × scenario_faults.IsFaul
 
 -- a scenario that can't be run yet
 abbrev pub IsNotBuilt : List ℕ → List ℕ → Type 0
-IsNotBuilt input line = (sc : Scenario) × IsScenario input sc × (CanRun sc → ⊥) × (line ≡ not_built)
+IsNotBuilt input line = (sc : Scenario) × IsScenario input sc × (IsUserOnly sc → ⊥) × (line ≡ not_built)
 
 -- why the input is no array
 abbrev pub IsArrayFault : List ℕ → RecipeFault → Type 0
@@ -77,6 +96,7 @@ IsRecipeFault input line = (fault : RecipeFault) × IsArrayFault input fault × 
 abbrev pub Refuses : Command → List ℕ → List ℕ → Type 0
 Refuses commands.Check input line = IsScenarioFault input line
 Refuses commands.Play input line = IsScenarioFault input line ⊎ IsNotBuilt input line
+Refuses (commands.PlaySeed seed) input line = IsScenarioFault input line ⊎ IsNotBuilt input line
 Refuses commands.Recipe input line = IsRecipeFault input line
 
 -- what a command comes to
@@ -87,7 +107,8 @@ Comes command input (outcomes.Refused line) = Refuses command input line.items
 -- the input is in the command's grammar
 abbrev pub IsIn : Command → List ℕ → Type 0
 IsIn commands.Check input = (sc : Scenario) × IsScenario input sc
-IsIn commands.Play input = (sc : Scenario) × IsScenario input sc × CanRun sc
+IsIn commands.Play input = (sc : Scenario) × IsScenario input sc × IsUserOnly sc
+IsIn (commands.PlaySeed seed) input = (sc : Scenario) × IsScenario input sc × IsUserOnly sc
 IsIn commands.Recipe input = (records : List Recipe) × IsArray input records
 
 -- the answer to the input was written, whole

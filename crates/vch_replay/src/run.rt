@@ -20,14 +20,15 @@ fn perform(alloc: Global, command: Command, input: &[u8]) -> Result<Outcome, NoM
 {
     match command {
         Command::Check => check::answer(alloc, input),
-        Command::Play => play::answer(alloc, input),
+        Command::Play => play::answer(alloc, input, None),
+        Command::PlaySeed { seed } => play::answer(alloc, input, Some(seed)),
         Command::Recipe => recipe::answer(alloc, input),
     }
 }
 
 /// All that the program does, but for runs with workers. It always returns.
 ///
-/// The words are `check`, `play` or `recipe`. The source is read to its end, or until 4,194,305 bytes were given; each read
+/// The words are `check`, `play`, `play` with a seed, or `recipe`. The source is read to its end, or until 4,194,305 bytes were given; each read
 /// asks for at least one byte, so at most 4,194,305 reads happen. The text is made whole before the first write.
 ///
 /// | status | when |
