@@ -12,7 +12,7 @@ use Rattle.vch_machine.specs.State.{Machine}
 use Rattle.vch_machine.specs.Next.{next_kind}
 use Rattle.vch_state.specs.declared.parts.Parts.{Parts}
 use Rattle.vch_state.specs.Reached.{Reached, IsState, MayFollow, Stands, IsNext, plain_of}
-use Rattle.vch_core.specs.Steps.{HasNext}
+use Rattle.vch_create.specs.Called.{HasNext}
 use Rattle.vch_core.specs.Turning.{all_of, IsResting, CanGo, Goes}
 use Rattle.vch_core.proofs.Framed.{did, next_of, is_true}
 

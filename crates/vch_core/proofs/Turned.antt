@@ -18,7 +18,7 @@ use Rattle.vch_state.specs.declared.frame.Frame.{Frame}
 use Rattle.vch_state.specs.Plain.{frame_of}
 use Rattle.vch_state.specs.Reached.{Reached, Stands}
 use Rattle.vch_state.proofs.NextKinds.{next_agrees}
-use Rattle.vch_core.specs.Steps.{HasNext}
+use Rattle.vch_create.specs.Called.{HasNext}
 use Rattle.vch_core.specs.Turning.{all_of, IsTurn, IsLowest, IsWaiting, IsTaskOrNone, OfFrame, IsResting, CanGo}
 use Rattle.vch_core.proofs.Framed.{Reach, reach, from_state, frame_same, is_there}
 

@@ -1,17 +1,11 @@
 -- One step of a task.
-use Rattle.std.specs.Prelude.{◌≡◌, ◌<◌, ◌≤◌, ℕ, length, Option, Some, None, IsSome, is_some, true}
+use Rattle.std.specs.Prelude.{◌≡◌, ◌<◌, ◌≤◌, ℕ, length, Option, Some, None, IsSome}
 use Rattle.vch_base.specs.declared.kind.Kind.{Kind}
-use Rattle.vch_machine.specs.State.{Machine}
-use Rattle.vch_machine.specs.Next.{next_kind}
 use Rattle.vch_state.specs.declared.parts.Parts.{Parts}
 use Rattle.vch_state.specs.Plain.{frame_of}
-use Rattle.vch_state.specs.Reached.{MayFollow, Stands, IsNext}
+use Rattle.vch_state.specs.Reached.{MayFollow, IsNext}
 use Rattle.vch_core.specs.declared.stepped.Stepped.{Stepped}
 use Rattle.vch_core.specs.declared.stepped.Stepped.TheVariants as stepped
-
--- the task has a next event, in every state that the parts stand for
-unfoldable pub HasNext : Parts → ℕ → Type 0
-HasNext p t = (m : Machine) → Stands p m → is_some (next_kind p.scenario m t) ≡ true
 
 -- the kind of the next event of the task's frame, and none where it has no frame
 abbrev pub IsFrameNext : Parts → ℕ → Option Kind → Type 0

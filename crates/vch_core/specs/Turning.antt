@@ -14,7 +14,7 @@ use Rattle.vch_state.specs.Plain.{begun_of, frame_of}
 use Rattle.vch_state.specs.Bounds.{IsOfTask}
 use Rattle.vch_state.specs.Reached.{Stands}
 use Rattle.vch_core.specs.declared.turn.Cursor.{Cursor}
-use Rattle.vch_core.specs.Steps.{HasNext}
+use Rattle.vch_create.specs.Called.{HasNext}
 
 abbrev pub all_of : Scenario → List ℕ
 all_of sc = numbers (length sc.flags)

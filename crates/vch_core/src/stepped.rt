@@ -2,10 +2,11 @@ ghost use Rattle.std.specs.Prelude.{◌≡◌, ◌<◌, length, Some, None, IsTr
 ghost use Rattle.vch_model.specs.Lines.{is_task};
 ghost use Rattle.vch_state.specs.Reached.{MayFollow};
 ghost use Rattle.vch_model.specs.UserOnly.{IsUserOnly};
-ghost use Rattle.vch_core.specs.Steps.{HasNext, IsFrameNext, Steps};
+ghost use Rattle.vch_create.specs.Called.{HasNext};
+ghost use Rattle.vch_core.specs.Steps.{IsFrameNext, Steps};
 
-use crate::stub::create_event;
 use vch_base::Kind;
+use vch_create::create_event;
 use vch_state::Core;
 
 /// What a step of a task came to.

@@ -51,7 +51,7 @@ pub fn start_cursor(core: &Core) -> Cursor
 }
 
 /// The lowest task that has a frame.
-fn lowest_frame(core: &Core) -> Option<u32>
+pub fn lowest_frame(core: &Core) -> Option<u32>
     ensures lowest { IsLowest core.now result }
     ensures can { OfFrame core.now result }
 {
