@@ -34,6 +34,6 @@ mod stepped;
 mod turn;
 
 pub use ends::finish;
-pub use order::drive;
+pub use order::{are_tasks, drive};
 pub use seed::drive_seed;
 pub use stepped::{Stepped, step};

@@ -23,4 +23,6 @@ pub use run::run_plain;
 pub use steady::run_steady;
 
 #[cfg(test)]
+mod order_tests;
+#[cfg(test)]
 mod tests;

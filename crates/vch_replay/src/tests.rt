@@ -41,21 +41,83 @@ const CASES: &[Case] = &[
         status: 0,
         output: "report 1\nmade 7 user 6162\ncall 1 1 create 0 1\ncall 1 2 drop 15\nphase\ntask 1 ledger 0 held 0 out 0\nvouchers 1 values 2\nend\n",
     },
+    // A create of no bytes answers no name.
     Case {
         words: &["play"],
         input: b"vouch 1\ntasks 1\ntask 1\nphase\n1 create -\nend\n",
+        status: 0,
+        output: "report 1\ncall 1 1 create 0 0\nphase\ntask 1 ledger 0 held 0 out 0\nvouchers 0 values 1\nend\n",
+    },
+    // A cut record refuses the call, and what it made is released.
+    Case {
+        words: &["play"],
+        input: b"vouch 1\ntasks 1\ntask 1\nphase\n1 create 07000000d300000000000000020000006162000000000000000000000000000000\nend\n",
+        status: 0,
+        output: "report 1\nmade 7 user 6162\ncall 1 1 create 4\nreleased 1\nphase\ntask 1 ledger 0 held 0 out 0\nvouchers 0 values 1\nend\n",
+    },
+    // A copy without a previous voucher does nothing; with one the key must be known, and the voucher there.
+    Case {
+        words: &["play"],
+        input: b"vouch 1\ntasks 1\ntask 1\nphase\n1 create 63000000010000000000000000000000\n1 create 63000000010000000100000000000000\n1 create 63000000010000000900000000000000\nend\n",
+        status: 0,
+        output: "report 1\ncall 1 1 create 0 1\ncall 1 2 create 4\ncall 1 3 create 20\nphase\ntask 1 ledger 0 held 0 out 0\nvouchers 1 values 1\nend\n",
+    },
+    // The voucher without a value has a name.
+    Case {
+        words: &["play"],
+        input: b"vouch 1\ntasks 1\ntask 1\nphase\n1 create ffffffff020000000000000000000000\n1 create ffffffff020000000000000000000000\nend\n",
+        status: 0,
+        output: "report 1\ncall 1 1 create 0 1\ncall 1 2 create 0 1\nphase\ntask 1 ledger 0 held 0 out 0\nvouchers 1 values 1\nend\n",
+    },
+    // A removal takes the value that the previous voucher has, and no other.
+    Case {
+        words: &["play"],
+        input: b"vouch 1\ntasks 1\ntask 1\nphase\n1 create 07000000d300000000000000020000006162\n1 create 07000000d30000000000000002000000616207000000020000000100000000000000\n1 create 07000000d30000000000000002000000636407000000020000000100000000000000\nend\n",
+        status: 0,
+        output: "report 1\nmade 7 user 6162\ncall 1 1 create 0 1\ncall 1 2 create 0 2\nmade 7 user 6364\ncall 1 3 create 0 3\nphase\ntask 1 ledger 0 held 0 out 0\nvouchers 3 values 3\nend\n",
+    },
+    // The value that a later record replaces is released before the reply.
+    Case {
+        words: &["play"],
+        input: b"vouch 1\ntasks 1\ntask 1\nphase\n1 create 07000000d30000000000000002000000616207000000d300000000000000020000006364\nend\n",
+        status: 0,
+        output: "report 1\nmade 7 user 6162\nmade 7 user 6364\nreleased 1\ncall 1 1 create 0 1\nphase\ntask 1 ledger 0 held 0 out 0\nvouchers 1 values 2\nend\n",
+    },
+    // In turn the first line goes first; by this seed the second task does.
+    Case {
+        words: &["play"],
+        input: b"vouch 1\ntasks 2\ntask 1\ntask 2\nphase\n1 create -\n2 create -\nend\n",
+        status: 0,
+        output: "report 1\ncall 1 1 create 0 0\ncall 2 1 create 0 0\nphase\ntask 1 ledger 0 held 0 out 0\ntask 2 ledger 0 held 0 out 0\nvouchers 0 values 1\nend\n",
+    },
+    Case {
+        words: &["play", "0"],
+        input: b"vouch 1\ntasks 2\ntask 1\ntask 2\nphase\n1 create -\n2 create -\nend\n",
+        status: 0,
+        output: "report 1\ncall 2 1 create 0 0\ncall 1 1 create 0 0\nphase\ntask 1 ledger 0 held 0 out 0\ntask 2 ledger 0 held 0 out 0\nvouchers 0 values 1\nend\n",
+    },
+    Case {
+        words: &["play"],
+        input: b"vouch 1\ntasks 1\ntask 1 donor\nphase\nphase\nend\n",
+        status: 0,
+        output: "report 1\nphase\nphase\ntask 1 ledger 0 held 0 out 0\nvouchers 0 values 1\nend\n",
+    },
+    // A record that asks another manager, and any other call, can't be run yet.
+    Case {
+        words: &["play"],
+        input: b"vouch 1\ntasks 1\ntask 1\nphase\n1 create 02000000c80000000000000000000000\nend\n",
         status: 2,
         output: "fault not built\n",
     },
     Case {
         words: &["play"],
-        input: b"vouch 1\ntasks 1\ntask 1 donor\nphase\nend\n",
+        input: b"vouch 1\ntasks 1\ntask 1\nphase\n1 create ffffffff0a0000000000000000000000\nend\n",
         status: 2,
         output: "fault not built\n",
     },
     Case {
-        words: &["play"],
-        input: b"vouch 1\ntasks 1\ntask 1\nphase\nphase\nend\n",
+        words: &["play", "7"],
+        input: b"vouch 1\ntasks 1\ntask 1\nphase\n1 live\nend\n",
         status: 2,
         output: "fault not built\n",
     },
@@ -132,7 +194,25 @@ const CASES: &[Case] = &[
         output: "end\n",
     },
     Case {
+        words: &["play", "18446744073709551615"],
+        input: STORE,
+        status: 0,
+        output: STORED,
+    },
+    Case {
+        words: &["play", "18446744073709551616"],
+        input: STORE,
+        status: 1,
+        output: "",
+    },
+    Case {
         words: &["play", "01"],
+        input: STORE,
+        status: 1,
+        output: "",
+    },
+    Case {
+        words: &["check", "1"],
         input: STORE,
         status: 1,
         output: "",
@@ -228,5 +308,48 @@ fn an_array_of_one_byte_too_many(rt: HostRuntime) -> Result<(), Fail> {
         2
     );
     assert_eq!(rt; sink.written(), b"fault size 5121\n".as_slice());
+    Ok(())
+}
+
+/// A scenario of one create, of one record of user data with so many bytes of zero and so many more bytes behind it.
+fn wide_create(alloc: Global, header: &str, zeros: usize) -> Result<Vec<u8>, Fail> {
+    let mut text = Vec::from_slice(alloc, b"vouch 1\ntasks 1\ntask 1\nphase\n1 create ")?;
+    text.extend_from_slice(header.as_bytes())?;
+    for _digit in 0..2 * zeros {
+        text.push(b'0')?;
+    }
+    text.extend_from_slice(b"\nend\n")?;
+    Ok(text)
+}
+
+#[test]
+fn the_largest_array(rt: HostRuntime) -> Result<(), Fail> {
+    let alloc = rt.alloc();
+    let words = words_of(alloc, &["play"])?;
+    let header = "07000000d300000000000000f0130000";
+    let mut source = SteadySource::new(wide_create(alloc, header, 5104)?);
+    let mut sink = SteadySink::new(alloc, 20000)?;
+    assert_eq!(rt;
+        run_steady(alloc, words.as_slice(), &mut source, &mut sink),
+        0
+    );
+    let mut report = Vec::from_slice(alloc, b"report 1\nmade 7 user ")?;
+    for _digit in 0..10208 {
+        report.push(b'0')?;
+    }
+    report.extend_from_slice(
+        b"\ncall 1 1 create 0 1\nphase\ntask 1 ledger 0 held 0 out 0\nvouchers 1 values 2\nend\n",
+    )?;
+    assert!(rt; sink.written() == report.as_slice());
+    let mut source = SteadySource::new(wide_create(alloc, header, 5105)?);
+    let mut sink = SteadySink::new(alloc, 1000)?;
+    assert_eq!(rt;
+        run_steady(alloc, words.as_slice(), &mut source, &mut sink),
+        0
+    );
+    assert_eq!(rt;
+        sink.written(),
+        b"report 1\ncall 1 1 create -307\nphase\ntask 1 ledger 0 held 0 out 0\nvouchers 0 values 1\nend\n".as_slice()
+    );
     Ok(())
 }

@@ -1,0 +1,62 @@
+//! Runs in an order of single events.
+use std::alloc::Global;
+use std::test::Fail;
+use vch_core::{are_tasks, drive, finish};
+use vch_report::report_of;
+use vch_state::{Core, is_user_only};
+
+/// A scenario, the order of its first events, and the report that it must come to.
+struct Row {
+    scenario: &'static [u8],
+    order: &'static [u32],
+    report: &'static str,
+}
+
+const ROWS: &[Row] = &[
+    // A value is made again before the question about it: the manager refuses, and no value is released.
+    Row {
+        scenario: b"vouch 1\ntasks 2\ntask 1\ntask 2\nphase\n1 create 07000000d300000000000000020000006162\n1 drop 1\n2 create 07000000d300000000000000020000006162\nend\n",
+        order: &[1, 1, 1, 1, 1, 1, 2, 2, 1, 1, 2, 2],
+        report: "report 1\nmade 7 user 6162\ncall 1 1 create 0 1\ncall 1 2 drop 0\ncall 2 1 create 0 1\nphase\ntask 1 ledger 0 held 0 out 0\ntask 2 ledger 0 held 0 out 0\nvouchers 1 values 2\nend\n",
+    },
+    // A value is made again at the same handle after the manager agreed, and before the look at its answer.
+    Row {
+        scenario: b"vouch 1\ntasks 2\ntask 1\ntask 2\nphase\n1 create 07000000d300000000000000020000006162\n1 drop 1\n2 create 07000000d300000000000000020000006162\n2 drop 1\nend\n",
+        order: &[1, 1, 1, 1, 1, 1, 1, 2, 2, 2, 1, 2, 2, 2, 2, 2],
+        report: "report 1\nmade 7 user 6162\ncall 1 1 create 0 1\ncall 1 2 drop 0\nreleased 1\nmade 7 user 6162\ncall 2 1 create 0 1\ncall 2 2 drop 0\nreleased 5\nphase\ntask 1 ledger 0 held 0 out 0\ntask 2 ledger 0 held 0 out 0\nvouchers 0 values 1\nend\n",
+    },
+    // And it is let go of again before that look: the claim begins anew.
+    Row {
+        scenario: b"vouch 1\ntasks 2\ntask 1\ntask 2\nphase\n1 create 07000000d300000000000000020000006162\n1 drop 1\n2 create 07000000d300000000000000020000006162000000000000000000000000000000\nend\n",
+        order: &[1, 1, 1, 1, 1, 1, 1, 2, 2, 2, 2, 2, 1, 1, 1],
+        report: "report 1\nmade 7 user 6162\ncall 1 1 create 0 1\ncall 1 2 drop 0\nreleased 1\nmade 7 user 6162\ncall 2 1 create 4\nreleased 5\nphase\ntask 1 ledger 0 held 0 out 0\ntask 2 ledger 0 held 0 out 0\nvouchers 0 values 1\nend\n",
+    },
+];
+
+/// The report after an order of events and the rest in turn.
+fn ordered(alloc: Global, row: &Row) -> Result<Vec<u8>, Fail> {
+    let Ok(scenario) = vch_scenario::read(alloc, row.scenario) else {
+        return Err(Fail::new("not a scenario of creates and drops, or not an order of it"));
+    };
+    if !is_user_only(&scenario) {
+        return Err(Fail::new("not a scenario of creates and drops, or not an order of it"));
+    }
+    let mut core = Core::start(alloc, &scenario)?;
+    if !are_tasks(&core, row.order) {
+        return Err(Fail::new("not a scenario of creates and drops, or not an order of it"));
+    }
+    drive(&mut core, row.order);
+    finish(&mut core);
+    let report = report_of(&core)?;
+    Ok(vch_report::write(alloc, &report)?)
+}
+
+#[test]
+fn worked_orders(rt: HostRuntime) -> Result<(), Fail> {
+    let alloc = rt.alloc();
+    for row in ROWS {
+        let report = ordered(alloc, row)?;
+        assert_eq!(rt; report.as_slice(), row.report.as_bytes());
+    }
+    Ok(())
+}
