@@ -1,1 +1,6 @@
+pub mod Begins
+pub mod Formed
 pub mod Refusals
+pub mod Works
+pub mod Carried
+pub mod Gives

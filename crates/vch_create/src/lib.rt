@@ -2,7 +2,9 @@
 #![tactic(auto)]
 
 mod begin;
+mod change;
 mod make;
 mod place;
+mod record;
 mod refuse;
 mod work;

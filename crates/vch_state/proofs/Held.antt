@@ -4,7 +4,6 @@ use Rattle.std.specs.List.{list_any, flat_map}
 use Rattle.std.proofs.lemmas.Grind.{common_steps}
 use Rattle.std.proofs.lemmas.List.Sums.{sum_by-append, sum_by-cons}
 use Rattle.vch_base.specs.declared.key.Key.{Key}
-use Rattle.vch_base.specs.declared.key.Key.TheVariants as keys
 use Rattle.vch_base.specs.Managers.{count}
 use Rattle.vch_model.specs.declared.lists.Scenario.{Scenario}
 use Rattle.vch_machine.specs.State as machine
@@ -13,9 +12,10 @@ use Rattle.vch_base.specs.Slots.{slot_at}
 use Rattle.vch_table.specs.declared.table.Cell.{Cell}
 use Rattle.vch_table.specs.Vouchers.{references_of}
 use Rattle.vch_state.specs.Plain.{Plain, Part, part_of, idle_part, SlotName, SlotMessage}
-use Rattle.vch_state.specs.Shape.{Indices, index_of, Shape, Pairwise, Optional, IsIndexOf, AreIndices, IsMap, IsSlotOf, HasMap, IsName, IsMessage, IsTable, slots_of, named_by, queued_by, referred_by, is_slot, bit}
+use Rattle.vch_state.specs.Shape.{Indices, index_of, Shape, Pairwise, Optional, IsIndexOf, IsMap, IsSlotOf, HasMap, IsName, IsMessage, IsTable, slots_of, named_by, queued_by, referred_by, is_slot, bit}
 use Rattle.vch_state.specs.Pictures as pictures
 use Rattle.vch_state.specs.Pictures.{cell_holds, forming_holds, frame_holds, let_holds, listed, translated, same_key, picture_of}
+use Rattle.vch_state.proofs.Maps.{at_key}
 
 pub cases_of : (b : Bool) (P : Type 0) → (b ≡ true → P) → (b ≡ false → P) → P
 cases_of true P f g = f refl
@@ -97,11 +97,6 @@ module _ (k : Key) (h : ℕ) where
     abbrev pub slot_has : ℕ → Bool
     slot_has s = has h (cell_holds c k (slot_at c.table s))
 
-    at_key : (k : Key) (v : Indices) (w : Handles) → IsMap c v w → Optional (IsIndexOf c k) (index_of k v) (of_key k w)
-    at_key keys.Importance v w p = p.0
-    at_key keys.Bank v w p = p.1.0
-    at_key keys.User v w p = p.1.1.0
-
     index_has : (i : Option ℕ) (o : Option ℕ) → Optional (IsIndexOf c k) i o → is_handle o h ≡ has h (listed (translated (slots_of c k) i))
     index_has None None p = refl
     index_has None (Some o) p = absurd p
@@ -113,7 +108,7 @@ module _ (k : Key) (h : ℕ) where
       where
         by : (o : Option Cell) → HasMap c o w → has_place w here ≡ has h (cell_holds c k o)
         by None p = absurd p
-        by (Some cell) p = index_has (index_of k cell.indices) (of_key k w) (at_key k cell.indices w p)
+        by (Some cell) p = index_has (index_of k cell.indices) (of_key k w) (at_key c k cell.indices w p)
 
     abbrev pub option_slot : Option ℕ → Bool
     option_slot None = false

@@ -59,8 +59,8 @@ module _ (p : Parts) (q : Place) (other : q.key ≡ keys.User → ⊥) where
   none_of k (Some i) (Some x) n h = absurd (no_index k i x n h)
 
   map_none : (k : Key) (v : Indices) (w : Handles) → (k ≡ keys.User → ⊥) → IsMap (plain_of p) v w → of_key k w ≡ None
-  map_none keys.Importance v w n h = none_of keys.Importance _ w.importance n h.0
-  map_none keys.Bank v w n h = none_of keys.Bank _ w.bank n h.1.0
+  map_none keys.Importance v w n h = none_of keys.Importance _ w.importance n h.0.0
+  map_none keys.Bank v w n h = none_of keys.Bank _ w.bank n h.0.1.0
   map_none keys.User v w n h = absurd (n refl)
 
   map_lacks : (v : Indices) (w : Handles) → IsMap (plain_of p) v w → has_place w q ≡ false

@@ -31,7 +31,7 @@ module _ (c d : Plain) (stable : (k : Key) (i h : ℕ) → IsIndexOf c k i h →
   indices_stay (k ∷ ks) v w p = (optional (IsIndexOf c k) (IsIndexOf d k) (stable k) (index_of k v) (of_key k w) p.0, indices_stay ks v w p.1)
 
   pub map_stays : (v : Indices) (w : Handles) → IsMap c v w → IsMap d v w
-  map_stays v w p = indices_stay all_keys v w p
+  map_stays v w p = (indices_stay all_keys v w p.0, p.1)
 
   has_map : (o : Option Cell) (w : Handles) → HasMap c o w → HasMap d o w
   has_map None w p = absurd p

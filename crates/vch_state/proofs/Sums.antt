@@ -93,7 +93,7 @@ all_lines (l ∷ ls) t n =
     let d : from ls t n ≤ length ls = all_lines ls t n in
     omega (arith, a, b, d)
 
-length_append : {A : Type 0} (xs ys : List A) → length (xs ++ ys) ≡ length xs + length ys
+pub length_append : {A : Type 0} (xs ys : List A) → length (xs ++ ys) ≡ length xs + length ys
 length_append [] ys = omega arith
 length_append (x ∷ xs) ys = let e : length (xs ++ ys) ≡ length xs + length ys = length_append xs ys in omega (arith, e)
 

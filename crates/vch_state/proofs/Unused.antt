@@ -48,7 +48,7 @@ module _ (c d : Plain) (gone : Place) (stable : (q : Key) (i j : ℕ) → same_p
     where
       by : (o : Option Cell) → HasMap c o w → HasMap d o w
       by None p = absurd p
-      by (Some cell) p = indices_stay all_keys cell.indices w n p
+      by (Some cell) p = (indices_stay all_keys cell.indices w n p.0, p.1)
 
   names_stay : (ns : List SlotName) (os : List Named) → list_any (λ (n : Named). has_place n.voucher gone) os ≡ false → Pairwise (IsName c) ns os → Pairwise (IsName d) ns os
   names_stay [] [] n p = tt
@@ -83,7 +83,7 @@ module _ (c d : Plain) (gone : Place) (stable : (q : Key) (i j : ℕ) → same_p
 
   forming_stays : (v : Option Indices) (w : Option Handles) → option_has w gone ≡ false → Optional (IsMap c) v w → Optional (IsMap d) v w
   forming_stays None None n p = tt
-  forming_stays (Some v) (Some w) n p = indices_stay all_keys v w n p
+  forming_stays (Some v) (Some w) n p = (indices_stay all_keys v w n p.0, p.1)
   forming_stays None (Some w) n p = absurd p
   forming_stays (Some v) None n p = absurd p
 

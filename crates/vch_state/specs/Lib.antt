@@ -1,4 +1,5 @@
 pub mod Plain
+pub mod Lookups
 pub mod UserOnly
 pub mod Shape
 pub mod Pictures

@@ -3,13 +3,13 @@
 use Rattle.std.specs.Prelude.{◌≡◌, ℕ, ◌+◌, ◌-◌, ◌<◌, ◌==◌, nat_le, Bool, false, if◌then◌else◌, List, [], ◌∷◌, length, Option, Some, None, is_some}
 use Rattle.vch_base.specs.declared.key.Key.{Key}
 use Rattle.vch_base.specs.declared.key.Key.TheVariants as keys
-use Rattle.vch_base.specs.Keys.{number_of}
+use Rattle.vch_base.specs.Keys.{number_of, key_of}
 use Rattle.vch_base.specs.Slots.{slot_at}
 use Rattle.vch_entry.specs.declared.table.Entry.{Entry}
 use Rattle.vch_entry.specs.Entries.{handle_at}
 use Rattle.vch_table.specs.declared.indices.KeyedIndex.{KeyedIndex}
 use Rattle.vch_table.specs.declared.table.Cell.{Cell}
-use Rattle.vch_table.specs.Indices.{index_at}
+use Rattle.vch_table.specs.Indices.{index_at, Bounded}
 use Rattle.vch_table.specs.Vouchers.{Vouchers, references_of}
 use Rattle.vch_model.specs.declared.call.Call.{Call}
 use Rattle.vch_model.specs.declared.call.Call.TheVariants as calls
@@ -59,8 +59,14 @@ abbrev pub AreIndices : Plain → List Key → Indices → Handles → Type 0
 AreIndices c [] v w = Unit {0}
 AreIndices c (k ∷ ks) v w = Optional (IsIndexOf c k) (index_of k v) (of_key k w) × AreIndices c ks v w
 
+-- the keys of a voucher are of managers, in rising order
+pub record IsKeyed (v : Indices) : Type 0 where
+  pub bounded : Bounded v
+  pub managed : (n : ℕ) → key_of n ≡ None → index_at v n ≡ None
+
+-- it has the handles at the keys of managers, and no other key
 abbrev pub IsMap : Plain → Indices → Handles → Type 0
-IsMap c v w = AreIndices c all_keys v w
+IsMap c v w = AreIndices c all_keys v w × IsKeyed v
 
 -- Names and queues, by the slots of the table.
 

@@ -1,5 +1,5 @@
-ghost use Rattle.std.specs.Prelude.{◌≡◌, ◌≤◌, ◌<◌, ◌-◌, ◌++◌, ◌∷◌, [], None, Some, IfSome, OnOk, OnErr, length, slice_set};
-ghost use Rattle.vch_state.specs.Plain.{working_of, frame_of, with_frame_of, begun_of};
+ghost use Rattle.std.specs.Prelude.{◌≡◌, ◌≤◌, ◌<◌, ◌+◌, ◌-◌, ◌++◌, ◌∷◌, [], None, Some, IfSome, OnOk, OnErr, length, slice_set};
+ghost use Rattle.vch_state.specs.Plain.{working_of, frame_of, with_frame_of, begun_of, with_begun_of};
 
 use crate::Frame;
 use std::alloc::Global;
@@ -80,5 +80,17 @@ impl Frames {
         ensures { self.new ≡ with_frame_of self.old task frame }
     {
         self.items[task as usize - 1].frame = frame;
+    }
+
+    /// Counts one more call of a task as begun, and answers its number.
+    pub fn begin(&mut self, task: u32) -> u32
+        requires task { (0 < task) × (task ≤ length self.old) }
+        requires room { begun_of self.old task < 4294967295 }
+        ensures number { result ≡ begun_of self.old task + 1 }
+        ensures frames { self.new ≡ with_begun_of self.old task }
+    {
+        let working = &mut self.items[task as usize - 1];
+        working.begun += 1;
+        working.begun
     }
 }

@@ -33,9 +33,10 @@
 //! recheck_event: made is not 1 but refs is not 0: the claim ends, the value stays
 //! ```
 //!
-//! Of the events, LetGo, Ask, Recheck and the end of a phase are here, each a function of its own; Make, Refer, Begin,
-//! Work and Place are not yet. Which event is next is told by [`Core::next_kind`], for each state that the core stands
-//! for; a phase ends exactly where no task has one. A proved caller:
+//! Of the events, LetGo, Ask, Recheck, Refer and the end of a phase are here, each a function of its own, and
+//! `value_event` does which of the first four is next; Make, Begin, Work and Place are not. Which event is next is told by
+//! [`Core::next_kind`], for each state that the core stands for; a phase ends exactly where no task has one. A proved
+//! caller:
 //!
 //! ```rust
 //! let mut core = Core::start(alloc, &scenario)?;
@@ -46,6 +47,7 @@
 
 mod ask;
 mod copy;
+mod forming;
 mod frame;
 mod frames;
 mod let_go;
@@ -55,6 +57,8 @@ mod parts;
 mod phase;
 mod places;
 mod recheck;
+mod record;
+mod refer;
 mod script;
 mod spaces;
 mod start;
@@ -62,9 +66,11 @@ mod state;
 mod tally;
 #[cfg(test)]
 mod tests;
+mod value;
 
 pub use frame::{Claiming, Frame, KeyIndex, KeyReceipt, Lets};
 pub use frames::{Frames, Working};
+pub use let_go::closed;
 pub use made::MadeNumbers;
 pub use parts::Parts;
 pub use script::Script;

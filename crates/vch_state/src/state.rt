@@ -9,6 +9,7 @@ ghost use Rattle.vch_state.specs.Reached.{Follows, Stands, value_kind};
 use crate::ask::ask;
 use crate::let_go::let_go;
 use crate::recheck::recheck;
+use crate::refer::refer;
 use crate::{Parts, Tally};
 use std::marker::Model;
 use vch_model::{History, Scenario};
@@ -112,5 +113,15 @@ impl Core {
         ensures { Follows kinds.Recheck task self.old self.new }
     {
         recheck(&mut self.parts, task);
+    }
+
+    /// Refer: the receipt of the task's frame becomes a reference, which stands at its key of the voucher that the call
+    /// forms. What stood there is to be let go of. It takes the time of one look for the entry and no memory.
+    pub fn refer_event(&mut self, task: u32)
+        requires task { IsTrue (is_task self.old.scenario task) }
+        requires next { value_kind (frame_of self.old.frames task) ≡ Some kinds.Refer }
+        ensures { Follows kinds.Refer task self.old self.new }
+    {
+        refer(&mut self.parts, task);
     }
 }

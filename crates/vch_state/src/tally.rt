@@ -1,5 +1,5 @@
 ghost use Rattle.std.specs.Prelude.{◌≡◌, ◌<◌, ◌^◌};
-ghost use Rattle.vch_state.specs.Moves.{more_claims, one_asked};
+ghost use Rattle.vch_state.specs.Moves.{more_claims, one_asked, one_referred};
 
 use vch_value::Claim;
 
@@ -27,4 +27,12 @@ pub fn count_question(tally: &mut Tally)
     ensures { tally.new ≡ one_asked tally.old }
 {
     tally.asks += 1;
+}
+
+/// Counts a reference.
+pub fn count_refer(tally: &mut Tally)
+    requires { tally.old.refers < 2 ^ 63 }
+    ensures { tally.new ≡ one_referred tally.old }
+{
+    tally.refers += 1;
 }

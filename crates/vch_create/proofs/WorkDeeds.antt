@@ -1,0 +1,104 @@
+-- A record's deed at one key or at all, by indices and by handles.
+use Rattle.std.proofs.Common.{◌≡◌, ◌≢◌, ℕ, ◌+◌, ◌<◌, ◌==◌, ◌&&◌, ◌||◌, Bool, true, false, cond, List, [], ◌∷◌, ◌++◌, refl, arith, sym, ap, ◌∙◌, subst, Option, Some, None, Result, Ok, Err}
+use Rattle.std.specs.Prelude.{pos, ℤ, not, length}
+use Rattle.std.specs.List.{flat_map}
+use Rattle.std.proofs.lemmas.Grind.{common_steps}
+use Rattle.vch_base.specs.declared.fault.Code.{Code}
+use Rattle.vch_base.specs.declared.key.Key.{Key}
+use Rattle.vch_base.specs.declared.key.Key.TheVariants as keys
+use Rattle.vch_base.specs.Keys.{key_of}
+use Rattle.vch_base.specs.Managers.{Kept, count}
+use Rattle.vch_base.specs.Slots.{slot_at}
+use Rattle.vch_recipe.specs.declared.recipe.Recipe.{Recipe}
+use Rattle.vch_recipe.specs.Recipes.{First, One}
+use Rattle.vch_entry.specs.Entries.{Entries, IsApart, handle_at}
+use Rattle.vch_value.specs.declared.flight.Receipt.{Receipt}
+use Rattle.vch_value.specs.Picture as picture
+use Rattle.vch_value.specs.Picture.{Picture, Claimed}
+use Rattle.vch_table.specs.declared.table.Cell.{Cell}
+use Rattle.vch_machine.specs.State.{of_key, with_key, Handles, Named}
+use Rattle.vch_machine.specs.Naming.{same_handle, handles_of}
+use Rattle.vch_machine.specs.Working.{Worked, changed, changed_at, changed_keys, copies, removes, copied, worked, worked_with, work_first}
+use Rattle.vch_state.specs.Plain.{Plain}
+use Rattle.vch_state.specs.Shape.{Indices, index_of, Optional, IsIndexOf, IsMap, slots_of}
+use Rattle.vch_state.proofs.Held.{either_way}
+use Rattle.vch_state.proofs.Maps.{at_key}
+use Rattle.vch_create.specs.declared.change.Deed.{Deed}
+use Rattle.vch_create.specs.declared.change.Deed.TheVariants as deeds
+use Rattle.vch_create.specs.declared.change.Change.{Change}
+use Rattle.vch_create.specs.declared.change.AtKeys.{AtKeys}
+use Rattle.vch_create.specs.declared.change.AtKeys.TheVariants as at
+use Rattle.vch_create.specs.Works.{Workspace, Changes, ChangesAt, ChangesBy, becomes}
+use Rattle.vch_create.proofs.WorkMaps.{done, OnlyUser, Becomes, Related, related_step, IsShared, P, seen_step}
+
+module _ (c : Plain) where
+  -- equal handles are equal indices
+  same_both : (k : Key) (i j h g : Option ℕ) → IsApart (slots_of c k) → Optional (IsIndexOf c k) i h → Optional (IsIndexOf c k) j g → same_handle i j ≡ same_handle h g
+  same_both k None None None None apart p q = refl
+  same_both k None (Some j) None (Some g) apart p q = refl
+  same_both k (Some i) None (Some h) None apart p q = refl
+  same_both k (Some i) (Some j) (Some h) (Some g) apart p q = either_way (i == j) (h == g)
+      (λ e. let same : i ≡ j = grind (arith, common_steps) in let z : Some h ≡ Some g = sym p ∙ (ap (handle_at (slots_of c k)) same ∙ q) in let y : h ≡ g = cc in test y)
+      (λ e. let same : h ≡ g = grind (arith, common_steps) in test (apart i j g (p ∙ ap Some same) q))
+    where
+      test : {a b : ℕ} → a ≡ b → (a == b) ≡ true
+      test {a} {b} e = grind (arith, common_steps)
+  same_both k None j (Some h) g apart p q = absurd p
+  same_both k (Some i) j None g apart p q = absurd p
+  same_both k None None None (Some g) apart p q = absurd q
+  same_both k (Some i) None (Some h) (Some g) apart p q = absurd q
+  same_both k None (Some j) None None apart p q = absurd q
+  same_both k (Some i) (Some j) (Some h) None apart p q = absurd q
+
+  -- what the machine makes of each key, by the voucher that the deed has
+  abbrev pub DeedIs : Handles → Deed → (Key → Option (Option ℕ)) → Type 0
+  DeedIs w (deeds.Copy v) f = (u : Handles) × IsMap c v u × ((k : Key) → f k ≡ copies (Some u) w k)
+  DeedIs w (deeds.Remove None) f = (k : Key) → f k ≡ removes None w k
+  DeedIs w (deeds.Remove (Some v)) f = (u : Handles) × IsMap c v u × ((k : Key) → f k ≡ removes (Some u) w k)
+
+  module _ (apart : (k : Key) → IsApart (slots_of c k)) where
+    both_gone : (k : Key) (a b : Bool) → a ≡ b → Becomes c k (cond a (Some None) None) (cond b (Some None) None)
+    both_gone k true true e = tt
+    both_gone k false false e = tt
+    both_gone k true false e = absurd (cc)
+    both_gone k false true e = absurd (cc)
+
+    becomes_is : (w : Handles) (deed : Deed) (f : Key → Option (Option ℕ)) → DeedIs w deed f → (k : Key) (map : Indices) (x : Handles) → IsMap c map x → of_key k x ≡ of_key k w → Becomes c k (becomes deed map k) (f k)
+    becomes_is w (deeds.Copy v) f d k map x m e = subst (Becomes c k (Some (index_of k v))) (sym (d.2 k)) (at_key c k v d.0 d.1)
+    becomes_is w (deeds.Remove None) f d k map x m e = subst (Becomes c k (Some None)) (sym (d k)) tt
+    becomes_is w (deeds.Remove (Some v)) f d k map x m e =
+        subst (Becomes c k (becomes (deeds.Remove (Some v)) map k)) (sym (d.2 k))
+        (both_gone k (same_handle (index_of k v) (index_of k map)) (same_handle (of_key k d.0) (of_key k w))
+        (same_both k (index_of k v) (index_of k map) (of_key k d.0) (of_key k x) (apart k) (at_key c k v d.0 d.1) (at_key c k map x m) ∙ ap (same_handle (of_key k d.0)) e))
+
+    -- a change at one key leaves the others
+    other_importance : (y : Option (Option ℕ)) (w : Worked) → of_key keys.Bank (changed keys.Importance y w).forming ≡ of_key keys.Bank w.forming
+    other_importance None w = refl
+    other_importance (Some h) w = refl
+
+    user_importance : (y : Option (Option ℕ)) (w : Worked) → of_key keys.User (changed keys.Importance y w).forming ≡ of_key keys.User w.forming
+    user_importance None w = refl
+    user_importance (Some h) w = refl
+
+    user_bank : (y : Option (Option ℕ)) (w : Worked) → of_key keys.User (changed keys.Bank y w).forming ≡ of_key keys.User w.forming
+    user_bank None w = refl
+    user_bank (Some h) w = refl
+
+    module _ (only : OnlyUser c) (kept : Kept) (ahead after : List ℕ) (receipts : List Receipt) (claims : List Claimed)
+        (w : Handles) (deed : Deed) (f : Key → Option (Option ℕ)) (is : DeedIs w deed f)
+        (shared : (k : Key) (map : Indices) → IsShared c only kept ahead after receipts claims (becomes deed map k)) where
+      abbrev pub Both : Workspace → Worked → Type 0
+      Both a z = Related c a z × picture.Stands (P c only kept ahead after receipts claims z) a.entries kept
+
+      one_step : (k : Key) (a b : Workspace) (z : Worked) → of_key k z.forming ≡ of_key k w → Changes a k (becomes deed a.map k) b → Both a z → Both b (changed k (f k) z)
+      one_step k a b z e g r =
+          let m : Becomes c k (becomes deed a.map k) (f k) = becomes_is w deed f is k a.map z.forming r.0.map e in
+          (related_step c k a b z (becomes deed a.map k) (f k) m g r.0, seen_step c only kept ahead after receipts claims k a b z (becomes deed a.map k) (f k) m (shared k a.map) g r.0 r.1)
+
+      pub both_done : (ks : AtKeys) (a b : Workspace) (z : Worked) → z.forming ≡ w → ChangesAt a ks deed b → Both a z → Both b (done ks f z)
+      both_done (at.One k) a b z e g r = one_step k a b z (ap (of_key k) e) g r
+      both_done at.All a b z e g r =
+          let z1 : Worked = changed keys.Importance (f keys.Importance) z in
+          let z2 : Worked = changed keys.Bank (f keys.Bank) z1 in
+          one_step keys.User g.1 b z2 (user_bank (f keys.Bank) z1 ∙ (user_importance (f keys.Importance) z ∙ ap (of_key keys.User) e)) g.4
+          (one_step keys.Bank g.0 g.1 z1 (other_importance (f keys.Importance) z ∙ ap (of_key keys.Bank) e) g.3 (one_step keys.Importance a g.0 z (ap (of_key keys.Importance) e) g.2 r))

@@ -1,0 +1,21 @@
+use Rattle.std.proofs.Common.{◌∙◌, sym, ap, refl}
+use Rattle.vch_create.proofs.WorkNext.{in_workings, some_frame, some_map, keyed_map}
+use Rattle.vch_create.proofs.work.carry_out.Goals as goal
+
+pub take-requires : goal.take-requires
+take-requires c = record { task = in_workings c.args.parts.now c.args.task c.requires.task c.requires.reached }
+
+pub returns-in_default : goal.returns-in_default
+returns-in_default c = some_frame c.args.parts.now c.args.task c.requires.task c.requires.next c.requires.idle _ c.requires.reached (sym c.take.ensures.frame ∙ c.in_default.is)
+
+pub returns-in_default-take : goal.returns-in_default-take
+returns-in_default-take c = some_map c.args.parts.now c.args.task c.requires.task c.requires.next c.requires.idle _ c.in-Some.frame c.requires.reached (sym c.take.ensures.frame ∙ c.in-Some.is) (sym c.take-2.ensures.value ∙ c.in_default-take.is)
+
+pub change_map-requires-clause-shares : goal.change_map-requires-clause-shares
+change_map-requires-clause-shares c = ?
+
+pub change_map-requires-clause-keyed : goal.change_map-requires-clause-keyed
+change_map-requires-clause-keyed c = keyed_map c.args.parts.now c.args.task c.requires.task c.requires.next c.requires.idle c.in-Some.frame c.in-Some-take.map c.requires.reached (sym c.take.ensures.frame ∙ c.in-Some.is) (sym c.take-2.ensures.value ∙ c.in-Some-take.is)
+
+pub returns : goal.returns
+returns c = ?

@@ -1,0 +1,8 @@
+use Rattle.vch_create.proofs.WorkNext.{forms_there}
+use Rattle.vch_create.proofs.work.work.Goals as goal
+
+pub refuse-requires-clause-forms : goal.refuse-requires-clause-forms
+refuse-requires-clause-forms c = forms_there c.args.parts.now c.args.task c.requires.task c.requires.next c.requires.idle c.requires.reached
+
+pub returns-in-Err : goal.returns-in-Err
+returns-in-Err c = ?
