@@ -12,3 +12,4 @@ pub mod Runs
 pub mod Begun
 pub mod Wholes
 pub mod Loops
+pub mod CopyLoops

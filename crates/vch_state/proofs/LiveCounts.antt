@@ -17,22 +17,22 @@ use Rattle.vch_state.specs.Reached.{plain_of, IsState, Stands}
 use Rattle.vch_state.proofs.OnlyUser.{live_is_default, default_alone}
 
 -- A sum over so many numbers from one on.
-abbrev over : (ℕ → ℕ) → ℕ → ℕ → ℕ
+abbrev pub over : (ℕ → ℕ) → ℕ → ℕ → ℕ
 over f i zero = 0
 over f i (suc n) = f i + over f (i + 1) n
 
-over_same : (f g : ℕ → ℕ) (i n : ℕ) → ((h : ℕ) → i ≤ h → h < i + n → f h ≡ g h) → over f i n ≡ over g i n
+pub over_same : (f g : ℕ → ℕ) (i n : ℕ) → ((h : ℕ) → i ≤ h → h < i + n → f h ≡ g h) → over f i n ≡ over g i n
 over_same f g i zero e = refl
 over_same f g i (suc n) e =
     let a : f i ≡ g i = e i (omega arith) (omega arith) in
     let b : over f (i + 1) n ≡ over g (i + 1) n = over_same f g (i + 1) n (λ h p q. e h (omega (arith, p)) (omega (arith, q))) in
     omega (arith, a, b)
 
-over_add : (f g : ℕ → ℕ) (i n : ℕ) → over (λ h. f h + g h) i n ≡ over f i n + over g i n
+pub over_add : (f g : ℕ → ℕ) (i n : ℕ) → over (λ h. f h + g h) i n ≡ over f i n + over g i n
 over_add f g i zero = refl
 over_add f g i (suc n) = let b : over (λ h. f h + g h) (i + 1) n ≡ over f (i + 1) n + over g (i + 1) n = over_add f g (i + 1) n in omega (arith, b)
 
-over_none : (i n : ℕ) → over (λ h. 0) i n ≡ 0
+pub over_none : (i n : ℕ) → over (λ h. 0) i n ≡ 0
 over_none i zero = refl
 over_none i (suc n) = let b : over (λ h. 0) (i + 1) n ≡ 0 = over_none (i + 1) n in omega (arith, b)
 
@@ -44,7 +44,7 @@ over_above u i (suc n) l =
     let b : over (λ h. bit (u == h)) (i + 1) n ≡ 0 = over_above u (i + 1) n (omega (arith, l)) in
     rw e (omega (arith, b))
 
-over_once : (u i n : ℕ) → i ≤ u → u < i + n → over (λ h. bit (u == h)) i n ≡ 1
+pub over_once : (u i n : ℕ) → i ≤ u → u < i + n → over (λ h. bit (u == h)) i n ≡ 1
 over_once u i zero p q = absurd (omega (arith, p, q))
 over_once u i (suc n) p q = by (u == i) refl (over_once u (i + 1) n)
   where
@@ -56,8 +56,8 @@ over_once u i (suc n) p q = by (u == i) refl (over_once u (i + 1) n)
         let l : i + 1 ≤ u = grind (arith, common_steps) in
         let b : over (λ h. bit (u == h)) (i + 1) n ≡ 1 = rec l (omega (arith, q)) in rw e (omega (arith, b))
 
--- the handles that are taken
-over_slots : (f : ℕ → ℕ) (i : ℕ) (slots : List (Option Live)) → ((k : ℕ) → k < length slots → f (i + k) ≡ bit (is_taken (get_or slots k None))) → over f i (length slots) ≡ count_by is_taken slots
+-- the places that are taken
+pub over_slots : {T : Type 0} (f : ℕ → ℕ) (i : ℕ) (slots : List (Option T)) → ((k : ℕ) → k < length slots → f (i + k) ≡ bit (is_taken (get_or slots k None))) → over f i (length slots) ≡ count_by is_taken slots
 over_slots f i [] e = refl
 over_slots f i (x ∷ slots) e =
     let z : i + 0 ≡ i = omega arith in
