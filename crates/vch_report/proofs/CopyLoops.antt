@@ -20,29 +20,6 @@ take_suc [] i x e = absurd (cc)
 take_suc (y ∷ xs) zero x e = let q : y ≡ x = cc in rw q refl
 take_suc (y ∷ xs) (suc i) x e = ap (λ t. y ∷ t) (take_suc xs i x e)
 
-take_all : {A : Type 0} (xs : List A) (n : ℕ) → length xs ≤ n → take n xs ≡ xs
-take_all [] zero l = refl
-take_all [] (suc n) l = refl
-take_all (x ∷ xs) zero l = absurd (omega arith)
-take_all (x ∷ xs) (suc n) l = ap (λ t. x ∷ t) (take_all xs n (omega arith))
-
--- the items at two indices
-index_get : (xs : List ℕ) (i : ℕ) → i < length xs → slice_get xs i ≡ Some (slice_index xs i)
-index_get [] i l = absurd (omega arith)
-index_get (x ∷ xs) zero l = refl
-index_get (x ∷ xs) (suc i) l = index_get xs i (omega arith)
-
-pub chain_first : (xs : List ℕ) (x : ℕ) → 1 ≤ length xs → x ≡ slice_index xs 0 → x ∷ [] ≡ take 1 xs
-chain_first [] x l e = absurd (omega arith)
-chain_first (y ∷ xs) x l e = ap (λ z. z ∷ []) e
-
-pub chain_next : (xs made new : List ℕ) (i x : ℕ) → i < length xs → made ≡ take i xs → x ≡ slice_index xs i → new ≡ made ++ x ∷ [] → new ≡ take (i + 1) xs
-chain_next xs made new i x l a e q =
-    q ∙ rw (a, e) (sym (take_suc xs i (slice_index xs i) (index_get xs i l))) ∙ ap (λ n. take n xs) (one_more i)
-
-pub chain_whole : (xs made : List ℕ) (n : ℕ) → made ≡ take n xs → length xs ≤ n → made ≡ xs
-chain_whole xs made n e l = e ∙ take_all xs n l
-
 pub all_at : (p : Entry → Type 0) (xs : List Entry) (i : ℕ) (x : Entry) → AllByRecursion p xs → slice_get xs i ≡ Some x → p x
 all_at p [] i x a e = absurd (cc)
 all_at p (y ∷ xs) zero x a e = let q : y ≡ x = cc in subst p q a.0
@@ -52,9 +29,6 @@ all_more : (p : Entry → Type 0) (xs : List Entry) (x : Entry) → AllByRecursi
 all_more p [] x a b = (b, tt)
 all_more p (y ∷ xs) x a b = (a.0, all_more p xs x a.1 b)
 
-pub copied_room : (entries : List Entry) (i : ℕ) (made : Entries) → Copied entries i made → i < length entries → 1 ≤ made.spare
-copied_room entries i made c l = let r : length entries ≤ made.spare + i = c.room in omega (arith, r, l)
-
 pub copied_next : (entries : List Entry) (i : ℕ) (made new : Entries) (x y : Entry) → Copied entries i made → slice_get entries i ≡ Some x → y ≡ x → Making HasBytes y
     → new.entries ≡ made.entries ++ y ∷ [] → new.spare + 1 ≡ made.spare → Copied entries (i + 1) new
 copied_next entries i made new x y c e same bytes q room = record {
@@ -62,9 +36,6 @@ copied_next entries i made new x y c e same bytes q room = record {
   bytes = subst (AllByRecursion (Making HasBytes)) (sym q) (all_more (Making HasBytes) made.entries y c.bytes bytes);
   room = let r : length entries ≤ made.spare + i = c.room in omega (arith, r, room);
 }
-
-pub copied_whole : (entries : List Entry) (n : ℕ) (made : Entries) → Copied entries n made → length entries ≤ n → made.entries ≡ entries
-copied_whole entries n made c l = c.same ∙ take_all entries n l
 
 pub totals_next : (n : ℕ) → no_totals n ++ no_total ∷ [] ≡ no_totals (n + 1)
 totals_next n = next n ∙ ap no_totals (one_more n)

@@ -13,3 +13,5 @@ pub mod Begun
 pub mod Wholes
 pub mod Loops
 pub mod CopyLoops
+pub mod LegalCodes
+pub mod ScenarioLines

@@ -1,19 +1,21 @@
 -- How many values are live: the manager's live handles and Default are the machine's live values.
-use Rattle.std.proofs.Common.{◌≡◌, ℕ, zero, suc, ◌+◌, ◌<◌, ◌≤◌, ◌==◌, ◌&&◌, not, nat_lt, Bool, true, false, List, [], ◌∷◌, refl, arith, sym, ap, ◌∙◌, subst, length, get_or, Option, Some, None}
+use Rattle.std.proofs.Common.{◌≡◌, ℕ, zero, suc, ◌+◌, ◌<◌, ◌≤◌, ◌==◌, ◌&&◌, not, nat_lt, Bool, true, false, List, [], ◌∷◌, ◌++◌, refl, arith, sym, ap, ◌∙◌, subst, length, get_or, Option, Some, None}
 use Rattle.std.specs.Prelude.{is_some}
-use Rattle.std.specs.List.{count_by}
+use Rattle.std.specs.List.{count_by, flat_map}
 use Rattle.std.proofs.lemmas.Grind.{common_steps}
 use Rattle.vch_base.specs.declared.key.Key.{Key}
 use Rattle.vch_base.specs.declared.key.Key.TheVariants as keys
 use Rattle.vch_base.specs.declared.places.Live.{Live}
 use Rattle.vch_base.specs.Keys.{number_of}
 use Rattle.vch_base.specs.Slots.{is_taken}
-use Rattle.vch_machine.specs.State.{of_key, Place, same_place, Living, Machine, living_at, default_place}
+use Rattle.vch_machine.specs.State.{of_key, Place, same_place, Living, Machine, living_at, alive_of, default_living, default_place}
 use Rattle.vch_legal.specs.Facts.{bit, times}
+use Rattle.vch_legal.proofs.Places.{same_place_eq}
 use Rattle.vch_legal.proofs.SeenValues.{AtMostOnce, Each, each_of, at_most_once, found_place}
 use Rattle.vch_state.specs.declared.parts.Parts.{Parts}
 use Rattle.vch_state.specs.Stands.{IsLiving, StandsFor, all_live}
 use Rattle.vch_state.specs.Reached.{plain_of, IsState, Stands}
+use Rattle.vch_state.proofs.Sums.{length_append}
 use Rattle.vch_state.proofs.OnlyUser.{live_is_default, default_alone}
 
 -- A sum over so many numbers from one on.
@@ -164,6 +166,17 @@ of_user keys.User h = refl
 of_other : (k : Key) → (number_of k == number_of keys.User) ≡ false → k ≡ keys.User → ⊥
 of_other k h e = let f : (number_of k == number_of keys.User) ≡ true = ap (λ x. number_of x == number_of keys.User) e in cc
 
+-- a value is Default or listed
+pub record Listed (l : Living) : Type 0 where
+  pub once : bit (at_default l) + length (alive_of l) ≡ 1
+
+all_listed : (live : List Living) → Each Listed live → length live ≡ times at_default live + length (flat_map alive_of live)
+all_listed [] e = refl
+all_listed (l ∷ live) e =
+    let a : length live ≡ times at_default live + length (flat_map alive_of live) = all_listed live e.1 in
+    let b : length (alive_of l ++ flat_map alive_of live) ≡ length (alive_of l) + length (flat_map alive_of live) = length_append (alive_of l) (flat_map alive_of live) in
+    omega (arith, a, b, e.0.once)
+
 module _ (p : Parts) (m : Machine) (s : StandsFor p.scenario (keys.User ∷ []) (plain_of p) m) where
   once : AtMostOnce m.live
   once = at_most_once m s.fits.each_once
@@ -214,6 +227,34 @@ module _ (p : Parts) (m : Machine) (s : StandsFor p.scenario (keys.User ∷ []) 
       let a : length m.live ≡ times is_of_user m.live + times (λ l. not (is_of_user l)) m.live = split m.live in
       let b : times (λ l. not (is_of_user l)) m.live ≡ times at_default m.live = others_alone m.live (each_of Alone m.live once alone) in
       omega (arith, a, b, default_once, users)
+
+  -- The values that the store lists are all but Default.
+  one_listed : (q : Place) (a : Living) → living_at m.live q ≡ Some a → Listed a
+  one_listed q a e = by (same_place q default_place) refl
+    where
+      same : a.place ≡ q
+      same = found_place m.live q a e
+
+      some_eq : (x y : Living) → Some x ≡ Some y → x ≡ y
+      some_eq x y h = cc
+
+      positive : (n : ℕ) → 1 ≤ n → nat_lt 0 n ≡ true
+      positive n l = grind (arith, common_steps)
+
+      by : (b : Bool) → same_place q default_place ≡ b → Listed a
+      by true h =
+          let f : living_at m.live default_place ≡ Some a = subst (λ r. living_at m.live r ≡ Some a) (same_place_eq q default_place h) e in
+          let g : default_living ≡ a = some_eq default_living a (sym s.fits.default_live ∙ f) in
+          subst Listed g (record { once = refl })
+      by false h =
+          let f : at_default a ≡ false = ap (λ r. same_place r default_place) same ∙ h in
+          let g : nat_lt 0 a.made ≡ true = positive a.made (s.fits.numbers.counted q a e h) in
+          record { once = rw (f, g) refl }
+
+  pub live_listed : length m.live ≡ 1 + length (flat_map alive_of m.live)
+  live_listed =
+      let a : length m.live ≡ times at_default m.live + length (flat_map alive_of m.live) = all_listed m.live (each_of Listed m.live once one_listed) in
+      omega (arith, a, default_once)
 
 -- of each state that the core stands for
 pub values_are : (p : Parts) (n : ℕ) → n ≡ all_live (keys.User ∷ []) (plain_of p) + 1 → (m : Machine) → Stands p m → n ≡ length m.live
