@@ -10,7 +10,7 @@ use Rattle.vch_base.specs.Managers.{answer, own_answer, bare}
 use Rattle.vch_recipe.specs.Recipes.{First, One, End, HeaderCut, ContentCut, first_of}
 use Rattle.vch_recipe.specs.declared.recipe.Recipe.{Recipe}
 use Rattle.vch_model.specs.Voucher.{Voucher, nothing}
-use Rattle.vch_model.specs.Eval.{answer_to, put_answer, previous_value, ask, ask_at, at_key, changes, copied, takes, carried, with_previous, eval, eval_all, made_of, create}
+use Rattle.vch_model.specs.Eval.{answer_to, put_answer, previous_value, ask, ask_at, at_key, changes, copied, takes, loses, carried, with_previous, eval, eval_all, made_of, create}
 use Rattle.vch_report.specs.WellFormed.{IsRefusal}
 
 -- a result whose code a report may have
@@ -78,7 +78,7 @@ carried_coded task r previous map =
     (either ((r.command == 0) || ((r.command == 1) || (r.command == 2))) _ _
     (either (not (length r.content == 0)) _ _ four
     (either (r.command == 0) _ _ tt
-    (either (r.command == 1) _ _ (copied_coded previous r.key map) (changes_coded _ r.key map))))
+    (either (r.command == 1) _ _ (copied_coded previous r.key map) (changes_coded (λ key. loses key previous) r.key map))))
     (either (r.key == 4294967295) _ _
     (either ((r.command == 10) && (length r.content == 0)) _ _ tt four)
     (asked_coded (key_of r.key) task r previous map)))

@@ -15,3 +15,4 @@ pub mod Loops
 pub mod CopyLoops
 pub mod LegalCodes
 pub mod ScenarioLines
+pub mod LegalEntries

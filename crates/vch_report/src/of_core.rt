@@ -160,6 +160,7 @@ pub fn report_of(alloc: Global, core: &Core) -> Result<Report, NoMemory>
     ensures well_formed { IfOk result (λ report. IsWellFormed report) }
 {
     core.know();
+    core.parts.user_entries.know();
     let history = copy_history(alloc, core.history())?;
     let totals = empty_totals(alloc, core.scenario().flags.len())?;
     Ok(Report {
