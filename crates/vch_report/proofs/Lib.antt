@@ -16,3 +16,5 @@ pub mod CopyLoops
 pub mod LegalCodes
 pub mod ScenarioLines
 pub mod LegalEntries
+pub mod CoreTotals
+pub mod CoreReports
