@@ -72,7 +72,7 @@ length_numbered : (phase : ℕ) (lines : List Line) → length (numbered phase l
 length_numbered phase [] = refl
 length_numbered phase (line ∷ lines) = ap suc (length_numbered phase lines)
 
-line_sum : (phase : ℕ) (phases : List (List Line)) → length (lines_from phase phases) ≡ line_count phases
+pub line_sum : (phase : ℕ) (phases : List (List Line)) → length (lines_from phase phases) ≡ line_count phases
 line_sum phase [] = refl
 line_sum phase (lines ∷ phases) =
     let a : length (numbered phase lines ++ lines_from (phase + 1) phases) ≡ length (numbered phase lines) + length (lines_from (phase + 1) phases) = length-append (numbered phase lines) (lines_from (phase + 1) phases) in

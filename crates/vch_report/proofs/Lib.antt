@@ -12,3 +12,9 @@ pub mod Runs
 pub mod Begun
 pub mod Wholes
 pub mod Loops
+pub mod CopyLoops
+pub mod LegalCodes
+pub mod ScenarioLines
+pub mod LegalEntries
+pub mod CoreTotals
+pub mod CoreReports

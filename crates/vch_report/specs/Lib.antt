@@ -6,3 +6,4 @@ pub mod Values
 pub mod Replies
 pub mod Lines
 pub mod Reading
+pub mod OfCore

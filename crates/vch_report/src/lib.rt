@@ -22,6 +22,7 @@ mod item;
 mod laws;
 mod lines;
 mod numerals;
+mod of_core;
 mod reader;
 mod replies;
 mod report;
@@ -30,6 +31,7 @@ mod writer;
 
 pub use fault::ReportFault;
 pub use laws::{one_answer, one_text};
+pub use of_core::report_of;
 pub use reader::read;
 pub use report::Report;
 pub use vch_model::{Total, TotalList};

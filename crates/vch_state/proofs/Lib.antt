@@ -35,6 +35,7 @@ pub mod FromStart
 pub mod FewHandles
 pub mod OnlyUser
 pub mod LiveCounts
+pub mod SlotsCounted
 pub mod PhaseEnds
 pub mod Loops
 pub mod RunOn

@@ -1,15 +1,16 @@
 -- How many values are live: the manager's live handles and Default are the machine's live values.
-use Rattle.std.proofs.Common.{◌≡◌, ℕ, zero, suc, ◌+◌, ◌<◌, ◌≤◌, ◌==◌, ◌&&◌, not, nat_lt, Bool, true, false, List, [], ◌∷◌, refl, arith, sym, ap, ◌∙◌, subst, length, get_or, Option, Some, None}
+use Rattle.std.proofs.Common.{◌≡◌, ℕ, zero, suc, ◌+◌, ◌<◌, ◌≤◌, ◌==◌, ◌&&◌, not, nat_lt, Bool, true, false, List, [], ◌∷◌, ◌++◌, refl, arith, sym, ap, ◌∙◌, subst, length, get_or, Option, Some, None, length-append}
 use Rattle.std.specs.Prelude.{is_some}
-use Rattle.std.specs.List.{count_by}
+use Rattle.std.specs.List.{count_by, flat_map}
 use Rattle.std.proofs.lemmas.Grind.{common_steps}
 use Rattle.vch_base.specs.declared.key.Key.{Key}
 use Rattle.vch_base.specs.declared.key.Key.TheVariants as keys
 use Rattle.vch_base.specs.declared.places.Live.{Live}
 use Rattle.vch_base.specs.Keys.{number_of}
 use Rattle.vch_base.specs.Slots.{is_taken}
-use Rattle.vch_machine.specs.State.{of_key, Place, same_place, Living, Machine, living_at, default_place}
+use Rattle.vch_machine.specs.State.{of_key, Place, same_place, Living, Machine, living_at, alive_of, default_living, default_place}
 use Rattle.vch_legal.specs.Facts.{bit, times}
+use Rattle.vch_legal.proofs.Places.{same_place_eq}
 use Rattle.vch_legal.proofs.SeenValues.{AtMostOnce, Each, each_of, at_most_once, found_place}
 use Rattle.vch_state.specs.declared.parts.Parts.{Parts}
 use Rattle.vch_state.specs.Stands.{IsLiving, StandsFor, all_live}
@@ -17,22 +18,22 @@ use Rattle.vch_state.specs.Reached.{plain_of, IsState, Stands}
 use Rattle.vch_state.proofs.OnlyUser.{live_is_default, default_alone}
 
 -- A sum over so many numbers from one on.
-abbrev over : (ℕ → ℕ) → ℕ → ℕ → ℕ
+abbrev pub over : (ℕ → ℕ) → ℕ → ℕ → ℕ
 over f i zero = 0
 over f i (suc n) = f i + over f (i + 1) n
 
-over_same : (f g : ℕ → ℕ) (i n : ℕ) → ((h : ℕ) → i ≤ h → h < i + n → f h ≡ g h) → over f i n ≡ over g i n
+pub over_same : (f g : ℕ → ℕ) (i n : ℕ) → ((h : ℕ) → i ≤ h → h < i + n → f h ≡ g h) → over f i n ≡ over g i n
 over_same f g i zero e = refl
 over_same f g i (suc n) e =
     let a : f i ≡ g i = e i (omega arith) (omega arith) in
     let b : over f (i + 1) n ≡ over g (i + 1) n = over_same f g (i + 1) n (λ h p q. e h (omega (arith, p)) (omega (arith, q))) in
     omega (arith, a, b)
 
-over_add : (f g : ℕ → ℕ) (i n : ℕ) → over (λ h. f h + g h) i n ≡ over f i n + over g i n
+pub over_add : (f g : ℕ → ℕ) (i n : ℕ) → over (λ h. f h + g h) i n ≡ over f i n + over g i n
 over_add f g i zero = refl
 over_add f g i (suc n) = let b : over (λ h. f h + g h) (i + 1) n ≡ over f (i + 1) n + over g (i + 1) n = over_add f g (i + 1) n in omega (arith, b)
 
-over_none : (i n : ℕ) → over (λ h. 0) i n ≡ 0
+pub over_none : (i n : ℕ) → over (λ h. 0) i n ≡ 0
 over_none i zero = refl
 over_none i (suc n) = let b : over (λ h. 0) (i + 1) n ≡ 0 = over_none (i + 1) n in omega (arith, b)
 
@@ -44,7 +45,7 @@ over_above u i (suc n) l =
     let b : over (λ h. bit (u == h)) (i + 1) n ≡ 0 = over_above u (i + 1) n (omega (arith, l)) in
     rw e (omega (arith, b))
 
-over_once : (u i n : ℕ) → i ≤ u → u < i + n → over (λ h. bit (u == h)) i n ≡ 1
+pub over_once : (u i n : ℕ) → i ≤ u → u < i + n → over (λ h. bit (u == h)) i n ≡ 1
 over_once u i zero p q = absurd (omega (arith, p, q))
 over_once u i (suc n) p q = by (u == i) refl (over_once u (i + 1) n)
   where
@@ -56,8 +57,8 @@ over_once u i (suc n) p q = by (u == i) refl (over_once u (i + 1) n)
         let l : i + 1 ≤ u = grind (arith, common_steps) in
         let b : over (λ h. bit (u == h)) (i + 1) n ≡ 1 = rec l (omega (arith, q)) in rw e (omega (arith, b))
 
--- the handles that are taken
-over_slots : (f : ℕ → ℕ) (i : ℕ) (slots : List (Option Live)) → ((k : ℕ) → k < length slots → f (i + k) ≡ bit (is_taken (get_or slots k None))) → over f i (length slots) ≡ count_by is_taken slots
+-- the places that are taken
+pub over_slots : {T : Type 0} (f : ℕ → ℕ) (i : ℕ) (slots : List (Option T)) → ((k : ℕ) → k < length slots → f (i + k) ≡ bit (is_taken (get_or slots k None))) → over f i (length slots) ≡ count_by is_taken slots
 over_slots f i [] e = refl
 over_slots f i (x ∷ slots) e =
     let z : i + 0 ≡ i = omega arith in
@@ -164,6 +165,17 @@ of_user keys.User h = refl
 of_other : (k : Key) → (number_of k == number_of keys.User) ≡ false → k ≡ keys.User → ⊥
 of_other k h e = let f : (number_of k == number_of keys.User) ≡ true = ap (λ x. number_of x == number_of keys.User) e in cc
 
+-- a value is Default or listed
+pub record Listed (l : Living) : Type 0 where
+  pub once : bit (at_default l) + length (alive_of l) ≡ 1
+
+all_listed : (live : List Living) → Each Listed live → length live ≡ times at_default live + length (flat_map alive_of live)
+all_listed [] e = refl
+all_listed (l ∷ live) e =
+    let a : length live ≡ times at_default live + length (flat_map alive_of live) = all_listed live e.1 in
+    let b : length (alive_of l ++ flat_map alive_of live) ≡ length (alive_of l) + length (flat_map alive_of live) = length-append (alive_of l) (flat_map alive_of live) in
+    omega (arith, a, b, e.0.once)
+
 module _ (p : Parts) (m : Machine) (s : StandsFor p.scenario (keys.User ∷ []) (plain_of p) m) where
   once : AtMostOnce m.live
   once = at_most_once m s.fits.each_once
@@ -214,6 +226,34 @@ module _ (p : Parts) (m : Machine) (s : StandsFor p.scenario (keys.User ∷ []) 
       let a : length m.live ≡ times is_of_user m.live + times (λ l. not (is_of_user l)) m.live = split m.live in
       let b : times (λ l. not (is_of_user l)) m.live ≡ times at_default m.live = others_alone m.live (each_of Alone m.live once alone) in
       omega (arith, a, b, default_once, users)
+
+  -- The values that the store lists are all but Default.
+  one_listed : (q : Place) (a : Living) → living_at m.live q ≡ Some a → Listed a
+  one_listed q a e = by (same_place q default_place) refl
+    where
+      same : a.place ≡ q
+      same = found_place m.live q a e
+
+      some_eq : (x y : Living) → Some x ≡ Some y → x ≡ y
+      some_eq x y h = cc
+
+      positive : (n : ℕ) → 1 ≤ n → nat_lt 0 n ≡ true
+      positive n l = grind (arith, common_steps)
+
+      by : (b : Bool) → same_place q default_place ≡ b → Listed a
+      by true h =
+          let f : living_at m.live default_place ≡ Some a = subst (λ r. living_at m.live r ≡ Some a) (same_place_eq q default_place h) e in
+          let g : default_living ≡ a = some_eq default_living a (sym s.fits.default_live ∙ f) in
+          subst Listed g (record { once = refl })
+      by false h =
+          let f : at_default a ≡ false = ap (λ r. same_place r default_place) same ∙ h in
+          let g : nat_lt 0 a.made ≡ true = positive a.made (s.fits.numbers.counted q a e h) in
+          record { once = rw (f, g) refl }
+
+  pub live_listed : length m.live ≡ 1 + length (flat_map alive_of m.live)
+  live_listed =
+      let a : length m.live ≡ times at_default m.live + length (flat_map alive_of m.live) = all_listed m.live (each_of Listed m.live once one_listed) in
+      omega (arith, a, default_once)
 
 -- of each state that the core stands for
 pub values_are : (p : Parts) (n : ℕ) → n ≡ all_live (keys.User ∷ []) (plain_of p) + 1 → (m : Machine) → Stands p m → n ≡ length m.live

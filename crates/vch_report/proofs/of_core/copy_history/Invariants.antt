@@ -1,0 +1,6 @@
+use Rattle.std.proofs.Common.{◌≡◌, ◌≤◌, ◌+◌, length, take}
+use Rattle.vch_report.proofs.CopyLoops.{Copied}
+use Rattle.vch_report.proofs.of_core.copy_history.Given as goal
+
+abbrev pub invariant-loop-i : goal.invariant-loop-i
+invariant-loop-i l = Copied l.history.entries l.i l.made
