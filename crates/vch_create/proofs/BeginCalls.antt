@@ -14,7 +14,7 @@ use Rattle.vch_machine.specs.Next.{call_in, nth_call, task_next}
 use Rattle.vch_state.specs.declared.parts.Parts.{Parts}
 use Rattle.vch_state.specs.Plain.{frame_of, begun_of}
 use Rattle.vch_state.specs.Reached.{Reached, IsNext}
-use Rattle.vch_state.specs.UserOnly.{IsUserCall, IsUserOnly}
+use Rattle.vch_model.specs.UserOnly.{IsUserCall, IsUserOnly}
 use Rattle.vch_state.proofs.CallsFound.{no_more}
 use Rattle.vch_create.specs.Begins.{demand_of}
 use Rattle.vch_create.specs.declared.begin.Demand.{Demand}

@@ -2,7 +2,7 @@ ghost use Rattle.std.specs.Prelude.{◌≡◌, Some, None, IsTrue};
 ghost use Rattle.vch_model.specs.Lines.{is_task};
 ghost use Rattle.vch_state.specs.Plain.{frame_of};
 ghost use Rattle.vch_state.specs.Reached.{Reached, MayFollow, IsNext, value_kind};
-ghost use Rattle.vch_state.specs.UserOnly.{IsUserOnly};
+ghost use Rattle.vch_model.specs.UserOnly.{IsUserOnly};
 ghost use Rattle.vch_create.specs.Called.{HasNext, IsOfCall};
 
 use crate::begin::begin;

@@ -18,7 +18,7 @@ use Rattle.vch_legal.specs.Tie as tie
 use Rattle.vch_legal.proofs.Runs.{reached_stands}
 use Rattle.vch_state.specs.declared.parts.Parts.{Parts}
 use Rattle.vch_state.specs.Plain.{Plain}
-use Rattle.vch_state.specs.UserOnly.{IsUserOnly}
+use Rattle.vch_model.specs.UserOnly.{IsUserOnly}
 use Rattle.vch_state.specs.Bounds.{Limited, flying_of, flying_in, in_all, begun_in, sum_tasks}
 use Rattle.vch_state.specs.Stands.{StandsFor}
 use Rattle.vch_state.specs.Reached.{IsState, IsEnd, Reached, Stands, plain_of}

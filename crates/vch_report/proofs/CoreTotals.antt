@@ -29,7 +29,7 @@ use Rattle.vch_legal.specs.Facts.{Fits}
 use Rattle.vch_legal.proofs.Ledgers.{charges_are_kept}
 use Rattle.vch_legal.proofs.SeenValues.{Each, each_of, at_most_once}
 use Rattle.vch_state.specs.declared.parts.Parts.{Parts}
-use Rattle.vch_state.specs.UserOnly.{IsUserCall, IsUserOnly}
+use Rattle.vch_model.specs.UserOnly.{IsUserCall, IsUserOnly}
 use Rattle.vch_state.specs.Stands.{StandsFor}
 use Rattle.vch_state.specs.Reached.{plain_of}
 use Rattle.vch_state.proofs.OnlyUser.{live_is_default}

@@ -31,7 +31,7 @@ use Rattle.vch_model.specs.Totals.{named_voucher}
 use Rattle.vch_model.specs.Replies.{refused, created, given_up, reply_to}
 use Rattle.vch_model.specs.Legal.{LegalPast, CanFollow, Answers, IsAnswer, IsUnheld, all_tasks, find_made}
 use Rattle.vch_legal.proofs.Conservation.{task_range}
-use Rattle.vch_state.specs.UserOnly.{IsUserCall, IsUserOnly}
+use Rattle.vch_model.specs.UserOnly.{IsUserCall, IsUserOnly}
 use Rattle.vch_report.specs.OfCore.{HasBytes, HasTask, Making}
 use Rattle.vch_report.specs.WellFormed.{IsEntry, IsNumber, IsRanged, IsRefusal, IsReply}
 use Rattle.vch_report.proofs.LegalCodes.{Coded, create_coded, no_name, want}

@@ -7,7 +7,7 @@ use Rattle.vch_model.specs.declared.call.Line.{Line}
 use Rattle.vch_model.specs.declared.lists.Scenario.{Scenario}
 use Rattle.vch_model.specs.Lines.{lines_from, lines_of, line_at}
 use Rattle.vch_model.specs.Scenarios.{IsIn, IsLimited, line_count}
-use Rattle.vch_state.specs.UserOnly.{IsUserCall, IsUserOnly}
+use Rattle.vch_model.specs.UserOnly.{IsUserCall, IsUserOnly}
 use Rattle.vch_state.proofs.OfTasks.{item_of}
 use Rattle.vch_legal.proofs.LineSums.{line_sum}
 

@@ -2,7 +2,7 @@ ghost use Rattle.std.specs.Prelude.{◌≡◌, ◌≤◌, length, IfOk};
 ghost use Rattle.std.specs.List.{AllByRecursion};
 ghost use Rattle.hex.specs.Hex.{IsBytes};
 ghost use Rattle.vch_model.specs.Canonical.{IsWritable};
-ghost use Rattle.vch_state.specs.UserOnly.{IsUserOnly};
+ghost use Rattle.vch_model.specs.UserOnly.{IsUserOnly};
 ghost use Rattle.vch_report.specs.OfCore.{HasBytes, HasTask, Making, Tells, no_totals};
 ghost use Rattle.vch_report.specs.WellFormed.{IsWellFormed};
 
