@@ -32,5 +32,7 @@ pub mod Unused
 pub mod Rechecks
 pub mod RechecksEvent
 pub mod FromStart
+pub mod FewHandles
+pub mod PhaseEnds
 pub mod Loops
 pub mod RunOn

@@ -12,7 +12,7 @@ no_moves : (sc : Scenario) (o : Option Machine) → run sc [] o ≡ o
 no_moves sc None = refl
 no_moves sc (Some m) = refl
 
-run_on : (sc : Scenario) (moves : List Move) (o : Option Machine) (m n : Machine) (move : Move) → run sc moves o ≡ Some m → happens sc m move ≡ Some n → run sc (moves ++ move ∷ []) o ≡ Some n
+pub run_on : (sc : Scenario) (moves : List Move) (o : Option Machine) (m n : Machine) (move : Move) → run sc moves o ≡ Some m → happens sc m move ≡ Some n → run sc (moves ++ move ∷ []) o ≡ Some n
 run_on sc moves None m n move e h = absurd (by moves e)
   where
     by : (moves : List Move) → run sc moves None ≡ Some m → ⊥

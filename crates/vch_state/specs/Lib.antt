@@ -9,4 +9,5 @@ pub mod Places
 pub mod Moves
 pub mod Reached
 pub mod Nexts
+pub mod Phases
 pub mod Fresh

@@ -51,6 +51,7 @@ mod let_go;
 mod made;
 mod next;
 mod parts;
+mod phase;
 mod places;
 mod recheck;
 mod record;

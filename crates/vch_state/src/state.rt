@@ -1,9 +1,11 @@
-ghost use Rattle.std.specs.Prelude.{◌≡◌, ◌≤◌, ◌↔◌, Some, IsTrue, length};
+ghost use Rattle.std.specs.Prelude.{◌≡◌, ◌≤◌, ◌↔◌, ◌+◌, ◌∷◌, [], Some, IsTrue, length};
+ghost use Rattle.vch_base.specs.declared.key.Key.TheVariants as keys;
 ghost use Rattle.vch_base.specs.declared.kind.Kind.TheVariants as kinds;
 ghost use Rattle.vch_model.specs.Lines.{is_task};
 ghost use Rattle.vch_table.specs.Vouchers.{live_slots};
 ghost use Rattle.vch_state.specs.Plain.{frame_of};
-ghost use Rattle.vch_state.specs.Reached.{Follows, value_kind};
+ghost use Rattle.vch_state.specs.Reached.{Follows, plain_of, value_kind};
+ghost use Rattle.vch_state.specs.Stands.{all_live};
 
 use crate::ask::ask;
 use crate::let_go::let_go;
@@ -74,6 +76,14 @@ impl Core {
         ensures { result ≡ live_slots self.now.vouchers }
     {
         self.parts.vouchers.count() as u64
+    }
+
+    /// How many values are live: those of user data, and Default. The time is linear in the number of handles that were
+    /// ever used.
+    pub fn values(&self) -> u64
+        ensures { result ≡ all_live (keys.User ∷ []) (plain_of self.now) + 1 }
+    {
+        self.parts.user.live() + 1
     }
 
     /// LetGo: the first reference that the task's frame has to let go of goes. Where it was the last of its value, the

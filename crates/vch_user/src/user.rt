@@ -1,4 +1,6 @@
 ghost use Rattle.std.specs.Prelude.{◌≡◌, [], None, Some, IfOk, IsSome, length};
+ghost use Rattle.std.specs.List.{count_by};
+ghost use Rattle.vch_base.specs.Slots.{is_taken};
 ghost use Rattle.vch_base.specs.declared.value.Value.TheVariants as values;
 ghost use Rattle.vch_base.specs.declared.key.Key.TheVariants as keys;
 ghost use Rattle.vch_base.specs.Values.{Belongs};
@@ -67,6 +69,13 @@ impl UserManager {
         ensures { self.now.rules ≡ user_rules }
     {
         let _ = &self.places;
+    }
+
+    /// How many values are live. The time is linear in the number of handles that were ever used.
+    pub fn live(&self) -> u64
+        ensures { result ≡ count_by is_taken self.now.slots }
+    {
+        self.places.live() as u64
     }
 
     /// The bytes of a value, without a copy.
