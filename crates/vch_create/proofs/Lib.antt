@@ -12,6 +12,10 @@ pub mod BeginEvent
 pub mod WorkDeeds
 pub mod WorkMaps
 pub mod WorkNext
+pub mod Roomier
+pub mod Flights
+pub mod MakeNext
+pub mod AskFacts
 pub mod WorkRecords
 pub mod WorkShares
 pub mod WorkStands

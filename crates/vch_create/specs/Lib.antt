@@ -3,3 +3,4 @@ pub mod Formed
 pub mod Refusals
 pub mod Works
 pub mod Carried
+pub mod Makes

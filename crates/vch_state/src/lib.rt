@@ -63,12 +63,15 @@ mod state;
 mod tally;
 mod value;
 
+pub use forming::put_index;
 pub use frame::{Claiming, Frame, KeyIndex, KeyReceipt, Lets};
 pub use frames::{Frames, Working};
 pub use let_go::closed;
 pub use made::MadeNumbers;
 pub use parts::Parts;
+pub use record::next_place;
 pub use script::Script;
 pub use spaces::Spaces;
+pub use start::count_calls;
 pub use state::Core;
 pub use tally::Tally;
