@@ -134,7 +134,7 @@ module _ (p : Parts) (m : Machine) (st : Stands p m) where
   abbrev P : Picture
   P = picture_of keys.User (plain_of p) m
 
-  long_is : length (parts_in p.spaces p.frames) ≡ length p.scenario.flags
+  pub long_is : length (parts_in p.spaces p.frames) ≡ length p.scenario.flags
   long_is = s.shape.long ∙ s.fits.tasks
 
   pub flights_are : length P.receipts ≡ length (receipts_in keys.User (take (length p.scenario.flags) p.frames))

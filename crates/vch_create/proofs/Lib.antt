@@ -16,6 +16,7 @@ pub mod Roomier
 pub mod Flights
 pub mod MakeNext
 pub mod AskFacts
+pub mod MakeCalls
 pub mod WorkRecords
 pub mod WorkShares
 pub mod WorkStands
