@@ -17,6 +17,9 @@ pub mod Flights
 pub mod MakeNext
 pub mod AskFacts
 pub mod MakeCalls
+pub mod Receives
+pub mod Loses
+pub mod LosesEvent
 pub mod WorkRecords
 pub mod WorkShares
 pub mod WorkStands

@@ -38,10 +38,10 @@ use Rattle.vch_create.proofs.AskFacts.{flights_are, flights_few, handles_few, ma
 use Rattle.vch_create.proofs.Own.{own_range}
 use Rattle.vch_create.proofs.WorkNext.{reached_state, state_of, frames_range}
 
-same_frame : (o : Option Frame) (a b : Frame) → o ≡ Some a → o ≡ Some b → a ≡ b
+pub same_frame : (o : Option Frame) (a b : Frame) → o ≡ Some a → o ≡ Some b → a ≡ b
 same_frame o a b x y = cc
 
-same_bytes : (o : Option Call) (a b : List ℕ) → o ≡ Some (calls.Create a) → o ≡ Some (calls.Create b) → a ≡ b
+pub same_bytes : (o : Option Call) (a b : List ℕ) → o ≡ Some (calls.Create a) → o ≡ Some (calls.Create b) → a ≡ b
 same_bytes o a b x y = cc
 
 module _ (p : Parts) (r : Reached p) where

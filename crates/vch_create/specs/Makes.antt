@@ -1,5 +1,5 @@
 -- A record that asks the manager of user data: what it asks, what the manager answers, and the room that is made before.
-use Rattle.std.specs.Prelude.{◌≡◌, ℕ, ◌+◌, ◌<◌, ◌≤◌, ◌==◌, if◌then◌else◌, List, length, drop, Option, Some, None, Result, Ok, ℤ}
+use Rattle.std.specs.Prelude.{◌≡◌, ℕ, ◌+◌, ◌<◌, ◌≤◌, ◌==◌, if◌then◌else◌, false, List, length, drop, Option, Some, None, Result, Ok, ℤ}
 use Rattle.std.specs.List.{flat_map}
 use Rattle.vch_base.specs.declared.key.Key.{Key}
 use Rattle.vch_base.specs.declared.key.Key.TheVariants as keys
@@ -22,6 +22,7 @@ use Rattle.vch_machine.specs.State as machine
 use Rattle.vch_machine.specs.State.{of_key, Handles, Machine, tasked}
 use Rattle.vch_machine.specs.Making.{asked_by, make_done}
 use Rattle.vch_machine.specs.Next.{current, nth_call}
+use Rattle.vch_machine.specs.Events.{event}
 use Rattle.vch_state.specs.declared.frame.Frame.{Frame}
 use Rattle.vch_state.specs.declared.frames.Working.{Working}
 use Rattle.vch_state.specs.declared.parts.Parts.{Parts}
@@ -100,8 +101,8 @@ pub record Answers (t : ℕ) (result : Result Made GetFault) (old new : Parts) :
   pub gives : (m : Machine) → Stands old m → (reply : Result (Option Value) ℤ) × IsAsked old m t reply × value_calls.Makes old.user reply result new.user
       × picture.Stands (got_picture (got_of result) (picture_of keys.User (plain_of old) m)) new.user_entries new.user
 
--- whatever state the parts stand for, they stand for the one in which the map has lost the key
+-- whatever state the parts stand for, they stand for the one in which the map has lost the key, where that is the event
 pub record IsLoss (t : ℕ) (old new : Parts) : Type 0 where
   pub scenario : new.scenario ≡ old.scenario
   pub stands : (m : Machine) → Stands old m → (f : machine.Frame) → (tasked m t).frame ≡ Some f → (w : Handles) → f.forming ≡ Some w → (call : Call) → current old.scenario m t ≡ Some call
-      → Stands new (make_done m t f w call keys.User (Ok None))
+      → event old.scenario false m t ≡ Some (make_done m t f w call keys.User (Ok None)) → Stands new (make_done m t f w call keys.User (Ok None))

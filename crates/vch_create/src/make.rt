@@ -76,12 +76,17 @@ fn go_on(parts: &mut Parts, task: u32, entry: Entry)
 {
     match ask(parts, task) {
         Ok(Made::Nothing) => lose(parts, task),
-        Ok(Made::Receipt { receipt, fresh }) => {
-            if fresh {
-                note_made(parts, receipt.handle, entry);
-            }
+        Ok(Made::Receipt {
+            receipt,
+            fresh: true,
+        }) => {
+            note_made(parts, receipt.handle, entry);
             give_receipt(parts, task, receipt);
         }
+        Ok(Made::Receipt {
+            receipt,
+            fresh: false,
+        }) => give_receipt(parts, task, receipt),
         Err(GetFault::Refused { code }) => refuse(parts, task, code),
         Err(GetFault::NoMemory) => refuse(parts, task, Code { number: 6 }),
     }
