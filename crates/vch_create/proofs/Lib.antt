@@ -17,7 +17,12 @@ pub mod Flights
 pub mod MakeNext
 pub mod AskFacts
 pub mod MakeCalls
+pub mod MakeGives
+pub mod MadeLive
 pub mod Receives
+pub mod FreshLive
+pub mod MakeEvent
+pub mod MakeReceipt
 pub mod Loses
 pub mod LosesEvent
 pub mod WorkRecords

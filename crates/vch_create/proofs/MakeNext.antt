@@ -110,7 +110,7 @@ module _ (p : Parts) (t : ℕ) (A : Type 0) (h : ToAsking p t A) where
       no_begin false e = cc
   by_frame (Some f) own idle k = by_map f f.forming own refl (sym (ap (λ o. first_kind o (forming_kind (names_in p.spaces t) (nth_call p.scenario t (begun_of p.frames t)) f.at f.forming)) idle) ∙ k)
 
-next_in : (p : Parts) (t : ℕ) (kind : Option Kind) (m : Machine) → IsNext p t kind → Stands p m → next_kind p.scenario m t ≡ kind
+pub next_in : (p : Parts) (t : ℕ) (kind : Option Kind) (m : Machine) → IsNext p t kind → Stands p m → next_kind p.scenario m t ≡ kind
 unfolding IsNext
 next_in p t kind m next s = next m s
 
