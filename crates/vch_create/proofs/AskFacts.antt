@@ -171,10 +171,10 @@ module _ (p : Parts) (t : ℕ) (task : is_task p.scenario t ≡ true) (next : Is
     sm : StandsFor p.scenario (keys.User ∷ []) (plain_of p) m
     sm = (state_of p m st).1
 
-    abbrev V : Indices
+    abbrev pub V : Indices
     V = previous_in (voucher_of p t) v r.previous
 
-    abbrev W : Handles
+    abbrev pub W : Handles
     W = previous_of (tasked m t).names w r.previous
 
     previous_map : IsMap (plain_of p) V W

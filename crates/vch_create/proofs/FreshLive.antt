@@ -189,3 +189,12 @@ tasks_given n m t f p same claim = by n.tasks same
         ≡ set (map (on_task (race_claim p)) m.tasks) (t - 1) (framed (tasked (on_claims (race_claim p) m) t) (Some (record f { receipt = Some p })))
     by xs e = rw e (map-set (on_task (race_claim p)) m.tasks (t - 1) (record (tasked m t) { frame = Some (record f { receipt = Some p }) })
         ∙ ap (set (map (on_task (race_claim p)) m.tasks) (t - 1)) (own (tasked m t) ∙ ap (λ y. framed y (Some (record f { receipt = Some p }))) (sym (claims_task m (race_claim p) t))))
+
+-- a value that was absent is no previous value
+pub absent_previous : (m : Machine) (k : Key) (slots : List (Option Live)) (numbers : List ℕ) (x : Value) → ((h : ℕ) → IsLiving (number_at numbers h) (live_at slots h) (living_at m.live (record { key = k; handle = h }))) → IsAbsent slots x
+    → (o : Option ℕ) → value_at m.live k o ≡ Some x → ⊥
+absent_previous m k slots numbers x living absent None e = no e
+  where
+    no : None ≡ Some x → ⊥
+    no q = cc
+absent_previous m k slots numbers x living absent (Some h) e = absent h (live_of (number_at numbers h) (live_at slots h) (living_at m.live (record { key = k; handle = h })) x (living h) e)

@@ -16,11 +16,11 @@ pub mod Roomier
 pub mod Flights
 pub mod MakeNext
 pub mod AskFacts
-pub mod MakeCalls
-pub mod MakeGives
 pub mod MadeLive
-pub mod Receives
 pub mod FreshLive
+pub mod MakeGives
+pub mod MakeCalls
+pub mod Receives
 pub mod MakeEvent
 pub mod MakeReceipt
 pub mod Loses

@@ -1,13 +1,13 @@
 -- What the calls of a Make need of the parts.
-use Rattle.std.proofs.Common.{◌≡◌, ℕ, zero, suc, ◌+◌, ◌-◌, ◌<◌, ◌≤◌, Bool, true, List, [], ◌∷◌, refl, arith, sym, ap, ◌∙◌, length, take, drop, subst, Option, Some, None, IsTrue}
-use Rattle.std.specs.Prelude.{IsSome, IfSome, ◌^◌, is_some, Result, ℤ}
+use Rattle.std.proofs.Common.{◌≡◌, ℕ, zero, suc, ◌+◌, ◌-◌, ◌<◌, ◌≤◌, Bool, true, false, List, [], ◌∷◌, refl, arith, sym, ap, ◌∙◌, length, take, drop, subst, Option, Some, None, IsTrue}
+use Rattle.std.specs.Prelude.{IsSome, IfSome, ◌^◌, is_some, Result, Ok, ℤ}
 use Rattle.vch_base.specs.declared.key.Key.TheVariants as keys
 use Rattle.vch_base.specs.declared.kind.Kind.TheVariants as kinds
 use Rattle.vch_base.specs.declared.manager.GetFault.{GetFault}
 use Rattle.vch_base.specs.declared.value.Value.{Value}
 use Rattle.vch_base.specs.declared.value.Value.TheVariants as values
 use Rattle.vch_base.specs.Managers as managers
-use Rattle.vch_base.specs.Managers.{Kept, MadeBelow, answer, live_at, user_rules}
+use Rattle.vch_base.specs.Managers.{Kept, MadeBelow, answer, live_at, next_handle, user_rules}
 use Rattle.vch_entry.specs.Entries.{Entries, entry_at}
 use Rattle.vch_recipe.specs.Recipes.{One, first_of}
 use Rattle.vch_recipe.specs.declared.recipe.Recipe.{Recipe}
@@ -17,7 +17,18 @@ use Rattle.vch_value.specs.Picture.{Picture, got_picture}
 use Rattle.vch_value.specs.Calls as value_calls
 use Rattle.vch_value.specs.Calls.{got_of, previous_handle}
 use Rattle.vch_model.specs.declared.entry.Entry.TheVariants as entries
-use Rattle.vch_machine.specs.State.{Machine}
+use Rattle.vch_machine.specs.State as machine
+use Rattle.vch_machine.specs.State.{Machine, Tasked}
+use Rattle.vch_legal.specs.Facts.{bit, burden, spot, total}
+use Rattle.vch_state.specs.Bounds.{Limited, in_all, sum_tasks, begun_in, flying_in, flying_of}
+use Rattle.vch_state.specs.Stands.{StandsFor}
+use Rattle.vch_state.proofs.Spending.{begun_bound, refers_bound}
+use Rattle.vch_create.proofs.FreshLive.{free_handle}
+use Rattle.vch_create.proofs.MadeLive.{IsFree}
+use Rattle.vch_create.proofs.MakeGives.{value_is}
+use Rattle.std.proofs.lemmas.List.{length-reverse}
+use Rattle.vch_value.specs.declared.flight.Made.TheVariants as made
+use Rattle.vch_value.specs.declared.flight.Receipt.{Receipt}
 use Rattle.vch_state.specs.Pictures.{picture_of}
 use Rattle.vch_model.specs.Lines.{is_task}
 use Rattle.vch_model.specs.Scenarios.{line_count}
@@ -32,7 +43,7 @@ use Rattle.vch_state.specs.Reached.{plain_of, parts_in, IsNext, Reached, Stands,
 use Rattle.vch_state.proofs.NextKinds.{task_inside}
 use Rattle.vch_state.proofs.Records.{record_inside}
 use Rattle.vch_create.specs.declared.question.Question.{Question}
-use Rattle.vch_create.specs.Makes.{Answers, IsAsked, IsMadeEntry, IsQuestion, receipts_in}
+use Rattle.vch_create.specs.Makes.{Answers, HasRoom, IsAsked, IsMadeEntry, IsQuestion, receipts_in}
 use Rattle.vch_create.proofs.MakeNext.{IsAsking, asking, makes_seen}
 use Rattle.vch_create.proofs.AskFacts.{flights_are, flights_few, handles_few, made_few, previous_there, previous_is_live, long_is, reply, reply_is, asked_is}
 use Rattle.vch_create.proofs.Own.{own_range}
@@ -137,3 +148,42 @@ module _ (p : Parts) (t : ℕ) (task : is_task p.scenario t ≡ true) (next : Is
 pub room_fits : (a b d calls phases handles : ℕ) → a ≡ calls → b ≡ phases → d ≡ handles → calls ≤ 1048576 → phases ≤ 1024 → handles < 4294967295
     → (a + b < 18446744073709551616) × (a + b + d < 18446744073709551616) × (a + b + d + 2 < 18446744073709551616) × (d < 4294967296)
 room_fits a b d calls phases handles x y z l m n = (omega arith, omega arith, omega arith, omega arith)
+
+-- the history is short of what a number of an entry can be
+flying_at_most : (t : ℕ) (xs : List Tasked) → sum_tasks flying_in t xs ≤ length xs
+flying_at_most t [] = omega arith
+flying_at_most t (x ∷ xs) = let a : sum_tasks flying_in (t + 1) xs ≤ length xs = flying_at_most (t + 1) xs in let b : flying_in t x ≤ 1 = one x.frame in omega (arith, a, b)
+  where
+    one_bit : (b : Bool) → bit b ≤ 1
+    one_bit true = omega arith
+    one_bit false = omega arith
+
+    one : (o : Option machine.Frame) → flying_of o ≤ 1
+    one None = omega arith
+    one (Some f) = one_bit (is_some f.receipt)
+
+pub past_few : (p : Parts) → Reached p → length p.history.entries < 4294967295
+past_few p reached = reached_state p _ reached (λ m st.
+    let s : StandsFor p.scenario (keys.User ∷ []) (plain_of p) m = (state_of p m st).1 in
+    let limited : Limited p.scenario = (state_of p m st).0 in
+    let a : in_all flying_in m ≤ length m.tasks = flying_at_most 1 m.tasks in
+    let b : length m.tasks ≡ length p.scenario.flags = s.fits.tasks in
+    let d : m.tally.asks + total (λ q. burden (spot m q)) m.live ≤ m.tally.refers = s.fits.counted in
+    let e : m.tally.refers ≤ 1342177280 = refers_bound p.scenario m limited s.spent in
+    let f : in_all begun_in m ≤ 1048576 = begun_bound p.scenario m limited s.spent in
+    let g : length p.history.entries ≡ length m.past = ap length s.history ∙ length-reverse m.past in
+    let h = s.spent.past in
+    let i = s.spent.phases in
+    let j = limited.phases in
+    let k = limited.tasks in
+    omega (arith, a, b, d, e, f, g, h, i, j, k))
+
+-- and the handle of a value that was handed out has room for its number
+pub handle_few : (p : Parts) → Reached p → (r : Receipt) (t : ℕ) (q : Parts) → HasRoom p → Answers t (Ok (made.Receipt r true)) p q → r.handle < length p.made.user
+handle_few p reached r t q room a = reached_state p _ reached (λ m st. value_is p.user q.user (a.gives m st).0 r true _ (a.gives m st).2 (λ x i.
+    let s : StandsFor p.scenario (keys.User ∷ []) (plain_of p) m = (state_of p m st).1 in
+    below p.user.free (free_handle p.scenario m keys.User p.user.slots p.user.free p.made.user s.fits s.keyed.0.free s.keyed.0.used s.keyed.0.living) i.handed.1.1))
+  where
+    below : (free : List ℕ) → IsFree p.user.slots free → r.handle ≡ next_handle free (length p.user.slots) → r.handle < length p.made.user
+    below [] f e = let l = room.numbers in omega (arith, e, l)
+    below (h ∷ free) f e = let b : h < length p.user.slots = f.inside h free refl in let l = room.numbers in omega (arith, e, b, l)

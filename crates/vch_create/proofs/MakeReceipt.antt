@@ -29,7 +29,7 @@ use Rattle.vch_model.specs.declared.entry.Entry.TheVariants as entries
 use Rattle.vch_model.specs.declared.lists.Scenario.{Scenario}
 use Rattle.vch_machine.specs.State as machine
 use Rattle.vch_machine.specs.State.{Keyed, of_key, with_key, Handles, Machine, Tasked, tasked, idle, handle_of, living_at}
-use Rattle.vch_machine.specs.Making.{made_at, minted, fresh_handle, fewer_free, given_receipt, race_claim, on_claims}
+use Rattle.vch_machine.specs.Making.{Asked, made_at, minted, fresh_handle, fewer_free, given_receipt, race_claim, on_claims}
 use Rattle.vch_machine.specs.Next.{current, nth_call}
 use Rattle.vch_machine.specs.Events.{event}
 use Rattle.vch_legal.specs.Facts.{Fits}
@@ -51,8 +51,8 @@ use Rattle.vch_state.proofs.Refers.{taking_frame}
 use Rattle.vch_state.proofs.Replaced.{framed}
 use Rattle.vch_state.proofs.Sums.{sum_bounded}
 use Rattle.vch_create.specs.Makes.{Answers, HasRoom, IsAsked, IsMadeEntry}
-use Rattle.vch_create.proofs.AskFacts.{reply, asked_is}
-use Rattle.vch_create.proofs.FreshLive.{found_handle, absent_handle, fresh_is, free_is, used_is, used_few, free_handle, living_again, living_new, stored, tasks_given}
+use Rattle.vch_create.proofs.AskFacts.{reply, asked_is, W}
+use Rattle.vch_create.proofs.FreshLive.{found_handle, absent_handle, fresh_is, free_is, used_is, used_few, free_handle, living_again, living_new, stored, absent_previous, tasks_given}
 use Rattle.vch_create.proofs.MadeLive.{IsFree, count_again, live_again, count_new, length_new, used_after}
 use Rattle.vch_create.proofs.MakeCalls.{same_frame}
 use Rattle.vch_create.proofs.MakeGives as gives
@@ -61,6 +61,12 @@ use Rattle.vch_create.proofs.MakeNext.{IsAsking, asking, Makes, makes_seen}
 use Rattle.vch_create.proofs.Quiet.{forming_frame, forming_machine}
 use Rattle.vch_create.proofs.Receives as receives
 use Rattle.vch_create.proofs.WorkNext.{reached_state, state_of}
+
+one_asked : (a b : Asked) → Some a ≡ Some b → a ≡ b
+one_asked a b e = cc
+
+one_reply : (a b : Result (Option Value) ℤ) → ◌≡◌ {A = Option Asked} (Some (record { key = keys.User; reply = a })) (Some (record { key = keys.User; reply = b })) → a ≡ b
+one_reply a b e = ap (λ (x : Asked). x.reply) (one_asked (record { key = keys.User; reply = a }) (record { key = keys.User; reply = b }) e)
 
 -- the calls without an answer are no more than all calls
 pub unanswered_few : (sc : Scenario) (m : Machine) → Spent sc m → in_all (unanswered_in sc) m ≤ calls_of sc
@@ -176,3 +182,145 @@ module _ (p : Parts) (t : ℕ) (task : is_task p.scenario t ≡ true) (next : Is
 
           room_same : (a b d e n : ℕ) → a ≡ b → b + 0 + d + e ≤ n → a + 0 + d + e ≤ n
           room_same a b d e n q l = omega (arith, q, l)
+
+  -- A fresh value.
+
+  module _ (entry : Entry) (h2 : rows.Entries) (has_room : HasRoom p) (is_entry : IsMadeEntry p t entry) (a : Answers t (Ok (made.Receipt receipt true)) p (record p { user_entries = e2; user = k2 }))
+      (pushed : h2.entries ≡ p.history.entries ++ entry ∷ []) (less : h2.spare + 1 ≡ p.history.spare) where
+    abbrev numbers2 : Keyed (List ℕ)
+    numbers2 = with_key keys.User (set p.made.user receipt.handle (length p.history.entries + 1)) p.made
+
+    module _ (m : Machine) (st : Stands p m) (v : Indices) (bytes : List ℕ) (r : Recipe) (rest : List ℕ) (z : IsAsking p t f v bytes r rest) (g : machine.Frame) (w : Handles) (y : Makes p t task next idle_ m f v bytes r g w)
+        (x : Value) (i : IsValue p.user k2 (a.gives m st).0 receipt true x) where
+      sm : StandsFor p.scenario (keys.User ∷ []) (plain_of p) m
+      sm = (state_of p m st).1
+
+      abbrev H : machine.Frame
+      H = gives.G p t task next idle_ f v bytes r rest z m st g w y
+
+      free_now : IsFree p.user.slots p.user.free
+      free_now = free_handle p.scenario m keys.User p.user.slots p.user.free p.made.user sm.fits sm.keyed.0.free sm.keyed.0.used sm.keyed.0.living
+
+      fresh_now : fresh_handle (of_key keys.User m.pools) ≡ receipt.handle
+      fresh_now = fresh_is (of_key keys.User m.pools) ∙ (rw (← sm.keyed.0.free, ← sm.keyed.0.used) refl ∙ sym i.handed.1.1)
+
+      dead : living_at m.live (record { key = keys.User; handle = receipt.handle }) ≡ None
+      dead = ap (λ h. living_at m.live (record { key = keys.User; handle = h })) (sym fresh_now) ∙ fresh_dead m keys.User sm.fits.each_once
+
+      abbrev N : Machine
+      N = given_receipt (minted m keys.User x) t H (record { key = keys.User; handle = receipt.handle })
+
+      happens : event p.scenario false m t ≡ Some N
+      happens = gives.answered p t task next idle_ f v bytes r rest z m st g w y (Ok (Some x)) (subst (IsAsked p m t) i.is (a.gives m st).1)
+          ∙ (ap (λ o. Some (made_at m t H keys.User x o)) (absent_handle p.scenario m keys.User p.user.slots p.made.user x sm.fits sm.keyed.0.living i.handed.1.0)
+          ∙ ap (λ h. Some (given_receipt (minted m keys.User x) t H (record { key = keys.User; handle = h }))) fresh_now)
+
+      long_history : length p.history.entries ≡ length m.past
+      long_history = ap length sm.history ∙ length-reverse m.past
+
+      handle_inside : receipt.handle < length p.made.user
+      handle_inside = below p.user.free refl
+        where
+          below : (free : List ℕ) → p.user.free ≡ free → receipt.handle < length p.made.user
+          below [] e =
+              let q : receipt.handle ≡ length p.user.slots = i.handed.1.1 ∙ ap (λ fs. next_handle fs (length p.user.slots)) e in
+              let l = has_room.numbers in omega (arith, q, l)
+          below (h ∷ free) e =
+              let q : receipt.handle ≡ h = i.handed.1.1 ∙ ap (λ fs. next_handle fs (length p.user.slots)) e in
+              let b : h < length p.user.slots = free_now.inside h free e in
+              let l = has_room.numbers in omega (arith, q, b, l)
+
+      living_then : (j : ℕ) → IsLiving (number_at numbers2.user j) (live_at k2.slots j) (living_at N.live (record { key = keys.User; handle = j }))
+      living_then j = subst (λ xs. IsLiving (number_at numbers2.user j) (live_at xs j) (living_at N.live (record { key = keys.User; handle = j }))) (sym i.handed.1.2)
+          (subst (λ h. IsLiving (number_at numbers2.user j) (live_at (slots_with p.user.slots p.user.free (new_live x)) j) (living_at (m.live ++ record { place = record { key = keys.User; handle = h }; value = x; made = length m.past + 1 } ∷ []) (record { key = keys.User; handle = j }))) (sym fresh_now)
+          (subst (λ n. IsLiving (number_at (set p.made.user receipt.handle n) j) (live_at (slots_with p.user.slots p.user.free (new_live x)) j) (living_at (m.live ++ record { place = record { key = keys.User; handle = receipt.handle }; value = x; made = length m.past + 1 } ∷ []) (record { key = keys.User; handle = j }))) (sym (ap (λ n. n + 1) long_history))
+          (living_new m keys.User p.user.slots p.user.free p.made.user x receipt.handle (length m.past + 1) free_now i.handed.1.1 handle_inside dead sm.keyed.0.living j)))
+
+      free_then : k2.free ≡ (of_key keys.User N.pools).free
+      free_then = i.handed.1.3 ∙ ap free_after sm.keyed.0.free ∙ sym (free_is (of_key keys.User m.pools))
+
+      used_then : length k2.slots ≡ (of_key keys.User N.pools).used
+      used_then = ap length i.handed.1.2 ∙ length_new p.user.slots p.user.free (new_live x) ∙ (rw (sm.keyed.0.free, sm.keyed.0.used) refl ∙ sym (used_is (of_key keys.User m.pools)))
+
+      few_then : (of_key keys.User N.pools).used ≤ (of_key keys.User m.pools).used + 1
+      few_then = subst (λ n. n ≤ (of_key keys.User m.pools).used + 1) (sym (used_is (of_key keys.User m.pools))) (used_few (of_key keys.User m.pools).free (of_key keys.User m.pools).used)
+
+      same_reply : (a.gives m st).0 ≡ reply p t task next idle_ f v bytes r rest z m st g w y
+      same_reply = one_reply _ _ ((sym ((a.gives m st).1 H w (calls.Create bytes) (gives.twin_is p t task next idle_ f v bytes r rest z m st g w y) refl y.both.create))
+          ∙ asked_is p t task next idle_ f v bytes r rest z m st g w y H w (calls.Create bytes) (gives.twin_is p t task next idle_ f v bytes r rest z m st g w y) refl y.both.create)
+
+      value_then : x ≡ values.User r.content
+      value_then = stored t r.command _ r.content x (sym same_reply ∙ i.is)
+          (absent_previous m keys.User p.user.slots p.made.user x sm.keyed.0.living i.handed.1.0 (of_key keys.User (W p t task next idle_ f v bytes r rest z m st g w y)))
+
+      entry_then : entry ≡ entries.Made 7 x
+      entry_then = is_entry f bytes r rest own z.call z.first ∙ ap (λ b. entries.Made 7 b) (sym value_then)
+
+      history_then : h2.entries ≡ reverse (entries.Made 7 x ∷ m.past)
+      history_then = pushed ∙ (rw (sm.history, entry_then) (sym (behind (entries.Made 7 x) m.past)))
+        where
+          behind : (e : Entry) (past : List Entry) → reverse (e ∷ past) ≡ reverse past ++ e ∷ []
+          behind e past = grind (arith, common_steps)
+
+      room_then : count_by is_taken k2.slots + 0 + in_all (unanswered_in p.scenario) m + (length p.scenario.phases - p.phase) ≤ h2.spare
+      room_then =
+          let b : count_by is_taken k2.slots ≡ count_by is_taken p.user.slots + 1 = ap (count_by is_taken) i.handed.1.2 ∙ count_new p.user.slots p.user.free (new_live x) free_now in
+          let d : count_by is_taken p.user.slots ≤ length p.user.slots = count_by-le-length is_taken p.user.slots in
+          let e : in_all (unanswered_in p.scenario) m ≤ calls_of p.scenario = unanswered_few p.scenario m sm.spent in
+          let l : calls_of p.scenario + length p.scenario.phases + length p.user.slots + 2 ≤ p.history.spare = has_room.entries in
+          omega (arith, b, d, e, l, less)
+
+      one_longer : (n : ℕ) → suc n ≤ n + 1
+      one_longer n = omega arith
+
+      fresh_stands : StandsFor p.scenario (keys.User ∷ []) (plain_of (record p { frames = frames2; user_entries = e2; user = k2; history = h2; made = numbers2 })) N
+      fresh_stands = after_stands m st v bytes r rest z g w y h2 numbers2 N a.slots (a.gives m st).3 refl refl living_then free_then used_then i.rest few_then history_then refl (one_longer (length m.past)) room_then
+          (event_keeps p.scenario false t m N sm.fits happens)
+
+    pub fresh_follows : MayFollow kinds.Make t p (record p { frames = frames2; user_entries = e2; user = k2; history = h2; made = numbers2 })
+    unfolding IsEventBy IsState
+    fresh_follows = record { scenario = refl; want = false; event = event_then }
+      where
+        event_then : IsEventBy p.scenario false kinds.Make t (plain_of p) (plain_of (record p { frames = frames2; user_entries = e2; user = k2; history = h2; made = numbers2 }))
+        event_then m st = seen_at _ m st (λ v bytes r rest z g w y. value_is p.user k2 (a.gives m st).0 receipt true _ (a.gives m st).2 (λ x i. (
+          N m st v bytes r rest z g w y x i,
+          happens m st v bytes r rest z g w y x i,
+          gives.kind_is p t task next idle_ f v bytes r rest z m st g w y,
+          ((state_of p m st).0, fresh_stands m st v bytes r rest z g w y x i),
+        )))
+
+-- The same of what the calls leave.
+
+module _ (p : Parts) (t : ℕ) (task : is_task p.scenario t ≡ true) (next : IsNext p t (Some kinds.Make)) (idle_ : value_kind (frame_of p.frames t) ≡ None) (reached : Reached p) (q new : Parts) (receipt : Receipt) where
+  abbrev Gives : Parts → Type 0
+  Gives x = IfSome (frame_of x.frames t) (λ f. new ≡ record x { frames = with_frame_of (with_frame_of x.frames t None) t (Some (record f { receipt = Some (record { key = keys.User; receipt = receipt }) })) })
+
+  pub again_given : Answers t (Ok (made.Receipt receipt false)) p q → Gives q → MayFollow kinds.Make t p new
+  again_given a g = asking p t task next idle_ _ reached (λ f v bytes r rest z.
+      let b : Answers t (Ok (made.Receipt receipt false)) p (record p { user_entries = q.user_entries; user = q.user }) = subst (Answers t (Ok (made.Receipt receipt false)) p) a.others a in
+      let d : Gives (record p { user_entries = q.user_entries; user = q.user }) = subst Gives a.others g in
+      subst (MayFollow kinds.Make t p) (sym (at f z.own d)) (again_follows p t task next idle_ reached f z.own q.user_entries q.user receipt _ refl b))
+    where
+      at : (f : Frame) → frame_of p.frames t ≡ Some f → Gives (record p { user_entries = q.user_entries; user = q.user })
+          → new ≡ record p { frames = with_frame_of (with_frame_of p.frames t None) t (Some (record f { receipt = Some (record { key = keys.User; receipt = receipt }) })); user_entries = q.user_entries; user = q.user }
+      at f own d = let e : IfSome (Some f) (λ f. new ≡ record p { frames = with_frame_of (with_frame_of p.frames t None) t (Some (record f { receipt = Some (record { key = keys.User; receipt = receipt }) })); user_entries = q.user_entries; user = q.user }) =
+          subst (λ o. IfSome o (λ f. new ≡ record p { frames = with_frame_of (with_frame_of p.frames t None) t (Some (record f { receipt = Some (record { key = keys.User; receipt = receipt }) })); user_entries = q.user_entries; user = q.user })) own d in e
+
+  module _ (n : Parts) (entry : Entry) (has_room : HasRoom p) (is_entry : IsMadeEntry p t entry) where
+    abbrev Notes : Parts → Type 0
+    Notes x = n ≡ record x { history = n.history; made = with_key keys.User (set x.made.user receipt.handle (length x.history.entries + 1)) x.made }
+
+    abbrev noted : Parts
+    noted = record p { user_entries = q.user_entries; user = q.user; history = n.history; made = with_key keys.User (set p.made.user receipt.handle (length p.history.entries + 1)) p.made }
+
+    pub fresh_given : Answers t (Ok (made.Receipt receipt true)) p q → Notes q → n.history.entries ≡ q.history.entries ++ entry ∷ [] → n.history.spare + 1 ≡ q.history.spare → Gives n → MayFollow kinds.Make t p new
+    fresh_given a o pushed less g = asking p t task next idle_ _ reached (λ f v bytes r rest z.
+        let b : Answers t (Ok (made.Receipt receipt true)) p (record p { user_entries = q.user_entries; user = q.user }) = subst (Answers t (Ok (made.Receipt receipt true)) p) a.others a in
+        let is_noted : n ≡ noted = subst Notes a.others o in
+        let d : Gives noted = subst Gives is_noted g in
+        subst (MayFollow kinds.Make t p) (sym (at f z.own d)) (fresh_follows p t task next idle_ reached f z.own q.user_entries q.user receipt _ refl entry n.history has_room is_entry b
+            (pushed ∙ ap (λ (x : Parts). x.history.entries ++ entry ∷ []) a.others) (less ∙ ap (λ (x : Parts). x.history.spare) a.others)))
+      where
+        at : (f : Frame) → frame_of p.frames t ≡ Some f → Gives noted → new ≡ record noted { frames = with_frame_of (with_frame_of p.frames t None) t (Some (record f { receipt = Some (record { key = keys.User; receipt = receipt }) })) }
+        at f own d = let e : IfSome (Some f) (λ f. new ≡ record noted { frames = with_frame_of (with_frame_of p.frames t None) t (Some (record f { receipt = Some (record { key = keys.User; receipt = receipt }) })) }) =
+            subst (λ o. IfSome o (λ f. new ≡ record noted { frames = with_frame_of (with_frame_of p.frames t None) t (Some (record f { receipt = Some (record { key = keys.User; receipt = receipt }) })) })) own d in e
