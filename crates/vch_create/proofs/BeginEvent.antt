@@ -133,23 +133,23 @@ module _ (p : Parts) (t : ℕ) (task : is_task p.scenario t ≡ true) (r : Reach
       inside : t - 1 < length m.tasks
       inside = omega (arith, range.1, s.shape.long)
 
-      own_is : (part_of (plain_of p) t).frame ≡ None
+      pub own_is : (part_of (plain_of p) t).frame ≡ None
       own_is = own_frame p m t s task ∙ idle
 
-      twin_is : (tasked m t).frame ≡ None
+      pub twin_is : (tasked m t).frame ≡ None
       twin_is = by (tasked m t).frame (subst (λ o. Optional (IsFrame (plain_of p) (nth_call p.scenario t (tasked m t).begun)) o (tasked m t).frame) own_is (s.shape.tasks t range.0 range.1).frame)
         where
           by : (o : Option machine.Frame) → Optional (IsFrame (plain_of p) (nth_call p.scenario t (tasked m t).begun)) None o → o ≡ None
           by None e = refl
           by (Some g) e = absurd e
 
-      number_is : begun_of p.frames t ≡ (tasked m t).begun
+      pub number_is : begun_of p.frames t ≡ (tasked m t).begun
       number_is = sym (own_begun p m t s task) ∙ (s.shape.tasks t range.0 range.1).begun
 
       call_is : (call : Call) → nth_call p.scenario t (begun_of p.frames t + 1) ≡ Some call → nth_call p.scenario t ((tasked m t).begun + 1) ≡ Some call
       call_is call e = ap (λ n. nth_call p.scenario t (n + 1)) (sym number_is) ∙ e
 
-      kind_is : next_kind p.scenario m t ≡ Some kinds.Begin
+      pub kind_is : next_kind p.scenario m t ≡ Some kinds.Begin
       unfolding IsNext
       kind_is = next m st
 

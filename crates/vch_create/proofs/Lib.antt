@@ -28,3 +28,15 @@ pub mod LosesEvent
 pub mod WorkRecords
 pub mod WorkShares
 pub mod WorkStands
+pub mod WorkShared
+pub mod WorkEvent
+pub mod Giving
+pub mod Slots
+pub mod Vouchers
+pub mod NameLists
+pub mod Tables
+pub mod Kept
+pub mod Placed
+pub mod References
+pub mod PlaceEvent
+pub mod BeginCalls

@@ -3,7 +3,7 @@ use Rattle.std.proofs.Common.{◌≡◌, ℕ, zero, suc, ◌+◌, ◌-◌, ◌<�
 use Rattle.std.proofs.Math.ListN.{set}
 use Rattle.vch_base.specs.declared.key.Key.TheVariants as keys
 use Rattle.vch_table.specs.declared.table.Cell.{Cell}
-use Rattle.vch_ports.specs.Names.{Names}
+use Rattle.vch_ports.specs.Names.{Names, Spaced}
 use Rattle.vch_base.specs.declared.key.Key.{Key}
 use Rattle.vch_model.specs.Lines.{is_task, lines_of}
 use Rattle.vch_model.specs.declared.lists.Scenario.{Scenario}
@@ -11,7 +11,8 @@ use Rattle.vch_model.specs.declared.entry.Entry.{Entry}
 use Rattle.vch_machine.specs.State.{Machine, Tasked, tasked, idle}
 use Rattle.vch_state.specs.declared.frames.Working.{Working}
 use Rattle.vch_state.specs.declared.parts.Parts.{Parts}
-use Rattle.vch_state.specs.Plain.{Plain, Part, part_of, idle_part, resting, begun_of}
+use Rattle.vch_state.specs.Plain.{Plain, Part, part_of, idle_part, no_names, names_of, resting, begun_of}
+use Rattle.vch_state.specs.Lookups.{AllSpaced}
 use Rattle.vch_state.specs.Bounds.{Limited, Spent, in_all, begun_in, unanswered_in}
 use Rattle.vch_state.specs.Stands.{StandsFor, all_live}
 use Rattle.vch_state.specs.Reached.{plain_of, part_in, parts_in}
@@ -73,3 +74,41 @@ room_for sc k c m t s positive inside owes =
 pub same_plain : (c : Plain) (ts us : List Part) (a b : List (Option Cell)) (xs ys : List Entry) (n k : ℕ) → ts ≡ us → a ≡ b → xs ≡ ys → n ≡ k
     → record c { tasks = ts; table = a; history = xs; spare = n } ≡ record c { tasks = us; table = b; history = ys; spare = k }
 same_plain c ts us a b xs ys n k e f g h = rw (e, f, g, h) refl
+
+parts_next : (ss : List Names) (fs : List Working) (i : ℕ) → i < length (parts_in ss fs) → (get_or (parts_in ss fs) i idle_part).next ≡ (get_or ss i no_names).next
+parts_next [] fs i l = absurd (omega arith)
+parts_next (s ∷ ss) [] i l = absurd (omega arith)
+parts_next (s ∷ ss) (x ∷ fs) zero l = refl
+parts_next (s ∷ ss) (x ∷ fs) (suc i) l = parts_next ss fs i (omega arith)
+
+pub own_next : (p : Parts) (m : Machine) (t : ℕ) → StandsFor p.scenario (keys.User ∷ []) (plain_of p) m → is_task p.scenario t ≡ true → (part_of (plain_of p) t).next ≡ (names_of p.spaces t).next
+own_next p m t s e = parts_next p.spaces p.frames (t - 1) (in_frames p m t s e)
+
+-- no task has a message
+pub no_queue : (ss : List Names) (fs : List Working) (i : ℕ) → (get_or (parts_in ss fs) i idle_part).queue ≡ []
+no_queue [] fs i = refl
+no_queue (s ∷ ss) [] i = refl
+no_queue (s ∷ ss) (x ∷ fs) zero = refl
+no_queue (s ∷ ss) (x ∷ fs) (suc i) = no_queue ss fs i
+
+-- other names of a task, and another state of what it works at
+pub parts_both : (ss : List Names) (fs : List Working) (i : ℕ) (n : Names) (w : Working) → parts_in (set ss i n) (set fs i w) ≡ set (parts_in ss fs) i (part_in n w)
+parts_both [] fs i n w = refl
+parts_both (s ∷ ss) [] zero n w = refl
+parts_both (s ∷ ss) [] (suc i) n w = refl
+parts_both (s ∷ ss) (x ∷ fs) zero n w = refl
+parts_both (s ∷ ss) (x ∷ fs) (suc i) n w = ap (λ ps. part_in s x ∷ ps) (parts_both ss fs i n w)
+
+-- the same names with other room
+pub parts_room : (ss : List Names) (fs : List Working) (i : ℕ) (n : Names) → n.names ≡ (get_or ss i no_names).names → n.next ≡ (get_or ss i no_names).next → parts_in (set ss i n) fs ≡ parts_in ss fs
+parts_room [] fs i n a b = refl
+parts_room (s ∷ ss) [] zero n a b = refl
+parts_room (s ∷ ss) [] (suc i) n a b = refl
+parts_room (s ∷ ss) (x ∷ fs) zero n a b = ap (λ ps. ps ∷ parts_in ss fs) (rw (a, b) refl)
+parts_room (s ∷ ss) (x ∷ fs) (suc i) n a b = ap (λ ps. part_in s x ∷ ps) (parts_room ss fs i n a b)
+
+-- the names of a task are in order
+pub spaced_at : (ss : List Names) (i : ℕ) → AllSpaced ss → Spaced (get_or ss i no_names).names (get_or ss i no_names).next
+spaced_at [] i h = record { names_differ = tt; slots_differ = tt; referred = tt; above = tt }
+spaced_at (s ∷ ss) zero h = h.0
+spaced_at (s ∷ ss) (suc i) h = spaced_at ss i h.1

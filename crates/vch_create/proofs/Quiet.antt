@@ -38,6 +38,26 @@ quiet f e = by_receipt f.receipt refl e
     by_receipt None q e = by_claim f.claim refl q e
     by_receipt (Some r) q e = absurd (cc)
 
+no_receipt : (o : Option Place) → Optional IsReceipt None o → o ≡ None
+no_receipt None e = refl
+no_receipt (Some p) e = absurd e
+
+no_claim : (c : Plain) (o : Option machine.Claim) → IsClaim c Claiming.Nothing o → o ≡ None
+no_claim c None e = refl
+no_claim c (Some p) e = absurd e
+
+no_lets : (c : Plain) (ps : List Place) → Pairwise (IsLet c) [] ps → ps ≡ []
+no_lets c [] e = refl
+no_lets c (p ∷ ps) e = absurd e
+
+-- the machine's frame is so too
+pub quiet_twin : (c : Plain) (call : Option Call) (f : Frame) (g : machine.Frame) → IsFrame c call f g → value_kind (Some f) ≡ None → (g.receipt ≡ None) × (g.claim ≡ None) × (g.lets ≡ [])
+quiet_twin c call f g r idle =
+    let q : (f.receipt ≡ None) × (f.claim ≡ Claiming.Nothing) × (f.lets ≡ []) = quiet f idle in
+    (no_receipt g.receipt (subst (λ o. Optional IsReceipt o g.receipt) q.0 r.receipt),
+    no_claim c g.claim (subst (λ x. IsClaim c x g.claim) q.1 r.claim),
+    no_lets c g.lets (subst (λ ls. Pairwise (IsLet c) ls g.lets) q.2 r.lets))
+
 -- both frames, and the create whose voucher they form
 pub record Forming (c : Plain) (call : Option Call) (f : Frame) (g : machine.Frame) (v : Indices) (w : Handles) (bytes : List ℕ) : Type 0 where
   pub own : f ≡ forming_frame v f.at f.key
@@ -52,17 +72,8 @@ forming_of c call f g v A r idle forms h = by_map g.forming refl (subst (λ o. O
     q : (f.receipt ≡ None) × (f.claim ≡ Claiming.Nothing) × (f.lets ≡ [])
     q = quiet f idle
 
-    no_receipt : (o : Option Place) → Optional IsReceipt None o → o ≡ None
-    no_receipt None e = refl
-    no_receipt (Some p) e = absurd e
-
-    no_claim : (o : Option machine.Claim) → IsClaim c Claiming.Nothing o → o ≡ None
-    no_claim None e = refl
-    no_claim (Some p) e = absurd e
-
-    no_lets : (ps : List Place) → Pairwise (IsLet c) [] ps → ps ≡ []
-    no_lets [] e = refl
-    no_lets (p ∷ ps) e = absurd e
+    twin : (g.receipt ≡ None) × (g.claim ≡ None) × (g.lets ≡ [])
+    twin = quiet_twin c call f g r idle
 
     parts_is : (x : Frame) (v : Indices) → x.forming ≡ Some v → x.receipt ≡ None → x.lets ≡ [] → x.claim ≡ Claiming.Nothing → x ≡ forming_frame v x.at x.key
     parts_is x v a b d e = rw (← a, ← b, ← d, ← e) refl
@@ -73,7 +84,7 @@ forming_of c call f g v A r idle forms h = by_map g.forming refl (subst (λ o. O
     by_call : (w : Handles) → g.forming ≡ Some w → IsMap c v w → (o : Option Call) → call ≡ o → FormsUser o f.at (Some v) → A
     by_call w e m (Some (calls.Create bytes)) z u = h w bytes (record {
       own = parts_is f v forms q.0 q.2 q.1;
-      twin = machine_is g w e (no_receipt g.receipt (subst (λ o. Optional IsReceipt o g.receipt) q.0 r.receipt)) (no_lets g.lets (subst (λ ls. Pairwise (IsLet c) ls g.lets) q.2 r.lets)) (no_claim g.claim (subst (λ x. IsClaim c x g.claim) q.1 r.claim));
+      twin = machine_is g w e twin.0 twin.2 twin.1;
       map = m;
       create = z;
     })

@@ -39,7 +39,7 @@ use Rattle.vch_create.proofs.Quiet.{forming_frame, forming_machine}
 use Rattle.vch_create.proofs.RefusedFits.{refused_fits}
 
 -- a create that forms a voucher has as much work left as a voucher has keys
-work_there : (bytes : List ℕ) (g : machine.Frame) (w : Handles) → 3 ≤ work_left (Some (calls.Create bytes)) g (Some w)
+pub work_there : (bytes : List ℕ) (g : machine.Frame) (w : Handles) → 3 ≤ work_left (Some (calls.Create bytes)) g (Some w)
 work_there bytes g w = by g.keys
   where
     three : (n a : ℕ) → 3 ≤ 16 * n + 3 * (suc a)

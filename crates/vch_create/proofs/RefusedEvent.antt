@@ -37,10 +37,10 @@ same_call o a b x y = cc
 
 module _ (p : Parts) (t : ℕ) (f : Frame) (v : Indices) (task : is_task p.scenario t ≡ true)
     (idle : value_kind (frame_of p.frames t) ≡ None) (own : frame_of p.frames t ≡ Some f) (forms : f.forming ≡ Some v) where
-  abbrev Seen : Machine → Type 0 → Type 0
+  abbrev pub Seen : Machine → Type 0 → Type 0
   Seen m A = (g : machine.Frame) (w : Handles) (bytes : List ℕ) → (tasked m t).frame ≡ Some g → Forming (plain_of p) (current p.scenario m t) f g v w bytes → A
 
-  seen : (m : Machine) (A : Type 0) → StandsFor p.scenario (keys.User ∷ []) (plain_of p) m → Seen m A → A
+  pub seen : (m : Machine) (A : Type 0) → StandsFor p.scenario (keys.User ∷ []) (plain_of p) m → Seen m A → A
   seen m A s h = twin_of p.scenario (keys.User ∷ []) (plain_of p) m t f A s task (own_frame p m t s task ∙ own)
       (λ g e r. forming_of (plain_of p) (current p.scenario m t) f g v A r (sym (ap value_kind own) ∙ idle) forms (λ w bytes z. h g w bytes e z))
 

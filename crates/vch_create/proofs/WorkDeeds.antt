@@ -1,34 +1,25 @@
 -- A record's deed at one key or at all, by indices and by handles.
-use Rattle.std.proofs.Common.{◌≡◌, ◌≢◌, ℕ, ◌+◌, ◌<◌, ◌==◌, ◌&&◌, ◌||◌, Bool, true, false, cond, List, [], ◌∷◌, ◌++◌, refl, arith, sym, ap, ◌∙◌, subst, Option, Some, None, Result, Ok, Err}
-use Rattle.std.specs.Prelude.{pos, ℤ, not, length}
-use Rattle.std.specs.List.{flat_map}
+use Rattle.std.proofs.Common.{◌≡◌, ℕ, ◌==◌, Bool, true, false, cond, List, refl, arith, sym, ap, ◌∙◌, subst, Option, Some, None}
 use Rattle.std.proofs.lemmas.Grind.{common_steps}
-use Rattle.vch_base.specs.declared.fault.Code.{Code}
 use Rattle.vch_base.specs.declared.key.Key.{Key}
 use Rattle.vch_base.specs.declared.key.Key.TheVariants as keys
-use Rattle.vch_base.specs.Keys.{key_of}
-use Rattle.vch_base.specs.Managers.{Kept, count}
-use Rattle.vch_base.specs.Slots.{slot_at}
-use Rattle.vch_recipe.specs.declared.recipe.Recipe.{Recipe}
-use Rattle.vch_recipe.specs.Recipes.{First, One}
-use Rattle.vch_entry.specs.Entries.{Entries, IsApart, handle_at}
+use Rattle.vch_base.specs.Managers.{Kept}
+use Rattle.vch_entry.specs.Entries.{IsApart, handle_at}
 use Rattle.vch_value.specs.declared.flight.Receipt.{Receipt}
 use Rattle.vch_value.specs.Picture as picture
 use Rattle.vch_value.specs.Picture.{Picture, Claimed}
-use Rattle.vch_table.specs.declared.table.Cell.{Cell}
-use Rattle.vch_machine.specs.State.{of_key, with_key, Handles, Named}
-use Rattle.vch_machine.specs.Naming.{same_handle, handles_of}
-use Rattle.vch_machine.specs.Working.{Worked, changed, changed_at, changed_keys, copies, removes, copied, worked, worked_with, work_first}
+use Rattle.vch_machine.specs.State.{of_key, Handles}
+use Rattle.vch_machine.specs.Naming.{same_handle}
+use Rattle.vch_machine.specs.Working.{Worked, changed, copies, removes}
 use Rattle.vch_state.specs.Plain.{Plain}
 use Rattle.vch_state.specs.Shape.{Indices, index_of, Optional, IsIndexOf, IsMap, slots_of}
 use Rattle.vch_state.proofs.Held.{either_way}
 use Rattle.vch_state.proofs.Maps.{at_key}
 use Rattle.vch_create.specs.declared.change.Deed.{Deed}
 use Rattle.vch_create.specs.declared.change.Deed.TheVariants as deeds
-use Rattle.vch_create.specs.declared.change.Change.{Change}
 use Rattle.vch_create.specs.declared.change.AtKeys.{AtKeys}
 use Rattle.vch_create.specs.declared.change.AtKeys.TheVariants as at
-use Rattle.vch_create.specs.Works.{Workspace, Changes, ChangesAt, ChangesBy, becomes}
+use Rattle.vch_create.specs.Works.{Workspace, Changes, ChangesAt, becomes}
 use Rattle.vch_create.proofs.WorkMaps.{done, OnlyUser, Becomes, Related, related_step, IsShared, P, seen_step}
 
 module _ (c : Plain) where

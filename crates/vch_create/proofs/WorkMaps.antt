@@ -1,35 +1,30 @@
 -- A record's change of a map, by indices and by handles: both agree key by key, and the entries fit what holds them then.
-use Rattle.std.proofs.Common.{◌≡◌, ◌≢◌, ℕ, ◌+◌, ◌<◌, ◌==◌, Bool, true, false, cond, List, [], ◌∷◌, ◌++◌, refl, arith, sym, ap, ◌∙◌, append_assoc, subst, Option, Some, None}
+use Rattle.std.proofs.Common.{◌≡◌, ℕ, ◌+◌, ◌<◌, ◌==◌, cond, List, [], ◌∷◌, ◌++◌, refl, arith, sym, ap, ◌∙◌, append_assoc, subst, Option, Some, None}
 use Rattle.std.specs.List.{flat_map}
-use Rattle.std.proofs.lemmas.Grind.{common_steps}
 use Rattle.std.proofs.lemmas.List.Sums.{sum_by-append}
 use Rattle.vch_base.specs.declared.key.Key.{Key}
 use Rattle.vch_base.specs.declared.key.Key.TheVariants as keys
 use Rattle.vch_base.specs.Managers.{Kept, count}
-use Rattle.vch_entry.specs.Entries.{Entries, IsApart, entry_at, handle_at, made_of}
+use Rattle.vch_entry.specs.Entries.{entry_at, handle_at, made_of}
 use Rattle.vch_value.specs.declared.flight.Receipt.{Receipt}
 use Rattle.vch_value.specs.Picture as picture
 use Rattle.vch_value.specs.Picture.{Picture, Claimed, Alike}
 use Rattle.vch_value.proofs.Rows.{stands_alike}
-use Rattle.vch_machine.specs.State.{of_key, with_key, Handles, Place}
+use Rattle.vch_machine.specs.State.{of_key}
 use Rattle.vch_machine.specs.Naming as naming
 use Rattle.vch_machine.specs.Naming.{same_handle}
-use Rattle.vch_machine.specs.Working.{Worked, changed, copies, removes}
-use Rattle.vch_state.specs.declared.frame.KeyIndex.{KeyIndex}
+use Rattle.vch_machine.specs.Working.{Worked, changed}
 use Rattle.vch_state.specs.Plain.{Plain}
-use Rattle.vch_state.specs.Shape.{Indices, index_of, Pairwise, Optional, IsIndexOf, IsMap, IsLet, slots_of}
+use Rattle.vch_state.specs.Shape.{index_of, Pairwise, Optional, IsIndexOf, IsMap, IsLet, slots_of}
 use Rattle.vch_state.specs.Pictures.{let_holds, listed}
-use Rattle.vch_state.proofs.Held.{either_way}
 use Rattle.vch_state.proofs.Maps.{at_key, map_with}
 use Rattle.vch_state.proofs.Replaced.{pictured}
-use Rattle.vch_create.specs.declared.change.Deed.{Deed}
-use Rattle.vch_create.specs.declared.change.Deed.TheVariants as deeds
 use Rattle.vch_create.specs.declared.change.AtKeys.{AtKeys}
 use Rattle.vch_create.specs.declared.change.AtKeys.TheVariants as at
 use Rattle.vch_create.specs.Formed.{item}
-use Rattle.vch_create.specs.Works.{Workspace, Shares, Puts, Changes, ChangesAt, becomes, shared_at, HeldAt, handle_in}
+use Rattle.vch_create.specs.Works.{Workspace, Changes, shared_at, HeldAt}
 use Rattle.vch_create.proofs.Items.{pairwise_append, item_lets}
-use Rattle.vch_create.proofs.WorkShares.{Stay, shares_stay, changes_stay}
+use Rattle.vch_create.proofs.WorkShares.{Stay, shares_stay}
 
 -- the machine's change at a key, or at all
 abbrev pub done : AtKeys → (Key → Option (Option ℕ)) → Worked → Worked

@@ -1,34 +1,30 @@
 -- Where a Work is next: the frame forms a voucher, and the record at its place is whole or cut.
 use Rattle.std.proofs.Common.{◌≡◌, ℕ, zero, suc, ◌+◌, ◌-◌, ◌<◌, ◌≤◌, ◌==◌, nat_lt, Bool, true, false, cond, List, [], ◌∷◌, refl, arith, sym, ap, ◌∙◌, length, drop, get_or, subst, Option, Some, None, IsTrue}
-use Rattle.std.specs.Prelude.{IsSome, is_some}
+use Rattle.std.specs.Prelude.{IsSome}
 use Rattle.std.proofs.lemmas.Grind.{common_steps}
 use Rattle.std.proofs.lemmas.List.{length-drop}
 use Rattle.vch_base.specs.Slots.{slot_at}
-use Rattle.vch_base.specs.declared.key.Key.{Key}
 use Rattle.vch_base.specs.declared.key.Key.TheVariants as keys
 use Rattle.vch_base.specs.declared.kind.Kind.{Kind}
 use Rattle.vch_base.specs.declared.kind.Kind.TheVariants as kinds
-use Rattle.vch_recipe.specs.Recipes.{First, One, first_of}
+use Rattle.vch_recipe.specs.Recipes.{First, first_of}
 use Rattle.vch_table.specs.declared.table.Cell.{Cell}
 use Rattle.vch_ports.specs.Names.{Names, by_name, looked}
-use Rattle.vch_ports.specs.declared.space.Named.{Named}
 use Rattle.vch_model.specs.Lines.{is_task, lines_until, phases_in}
 use Rattle.vch_model.specs.declared.call.Call.{Call}
 use Rattle.vch_model.specs.declared.call.Call.TheVariants as calls
 use Rattle.vch_machine.specs.State as machine
 use Rattle.vch_machine.specs.State.{Handles, Machine, Tasked, Place, tasked}
 use Rattle.vch_machine.specs.Naming.{handles_of}
-use Rattle.vch_machine.specs.Next.{current, nth_call, first_next, call_next, frame_next, next_kind, task_next}
+use Rattle.vch_machine.specs.Next.{current, nth_call, first_next, frame_next, next_kind, task_next}
 use Rattle.vch_state.specs.declared.frame.Frame.{Frame}
 use Rattle.vch_state.specs.declared.frame.Claiming.{Claiming}
 use Rattle.vch_state.specs.declared.frames.Working.{Working}
 use Rattle.vch_state.specs.declared.parts.Parts.{Parts}
-use Rattle.vch_state.specs.Plain.{Plain, Part, SlotName, part_of, idle_part, frame_of, begun_of}
-use Rattle.vch_state.specs.Shape.{Indices, IsKeyed, Optional, Pairwise, IsFrame, IsReceipt, IsClaim, IsLet, IsMap, IsName, IsSlotOf, HasMap}
+use Rattle.vch_state.specs.Plain.{Plain, SlotName, part_of, idle_part, frame_of, begun_of, names_of, no_names}
+use Rattle.vch_state.specs.Shape.{Indices, IsKeyed, Optional, Pairwise, IsFrame, IsReceipt, IsClaim, IsLet, IsMap, IsName, HasMap}
 use Rattle.vch_state.specs.Bounds.{Limited}
 use Rattle.vch_state.specs.Stands.{StandsFor}
-use Rattle.vch_state.specs.Lookups.{names_in}
-use Rattle.vch_state.specs.Plain.{no_names}
 use Rattle.vch_state.specs.Reached.{plain_of, parts_in, IsState, IsEnd, IsNext, Reached, Stands, value_kind}
 use Rattle.vch_state.proofs.Glue.{own_frame, in_parts, in_frames, twin_of}
 use Rattle.vch_create.specs.Formed.{is_forming}
@@ -45,7 +41,7 @@ pub state_of : (p : Parts) (m : Machine) → Stands p m → Limited p.scenario �
 unfolding IsState
 state_of p m s = s
 
-next_in : (p : Parts) (t : ℕ) (kind : Option Kind) (m : Machine) → IsNext p t kind → Stands p m → next_kind p.scenario m t ≡ kind
+pub next_in : (p : Parts) (t : ℕ) (kind : Option Kind) (m : Machine) → IsNext p t kind → Stands p m → next_kind p.scenario m t ≡ kind
 unfolding IsNext
 next_in p t kind m next s = next m s
 
@@ -116,16 +112,16 @@ frames_range (s ∷ ss) [] = omega arith
 frames_range (s ∷ ss) (x ∷ fs) = let e : length (parts_in ss fs) ≤ length fs = frames_range ss fs in omega arith
 
 module _ (p : Parts) (t : ℕ) (task : is_task p.scenario t ≡ true) where
-  pub own_names : (m : Machine) → StandsFor p.scenario (keys.User ∷ []) (plain_of p) m → (part_of (plain_of p) t).names ≡ names_in p.spaces t
+  pub own_names : (m : Machine) → StandsFor p.scenario (keys.User ∷ []) (plain_of p) m → (part_of (plain_of p) t).names ≡ (names_of p.spaces t).names
   own_names m s = parts_names p.spaces p.frames (t - 1) (in_frames p m t s task)
 
-  pub task_names : (m : Machine) → StandsFor p.scenario (keys.User ∷ []) (plain_of p) m → Pairwise (IsName (plain_of p)) (names_in p.spaces t) (tasked m t).names
+  pub task_names : (m : Machine) → StandsFor p.scenario (keys.User ∷ []) (plain_of p) m → Pairwise (IsName (plain_of p)) (names_of p.spaces t).names (tasked m t).names
   task_names m s =
       let n : (0 < t) × (t - 1 < length (plain_of p).tasks) = in_parts p.scenario (keys.User ∷ []) (plain_of p) m t s task in
       subst (λ ns. Pairwise (IsName (plain_of p)) ns (tasked m t).names) (own_names m s) (s.shape.tasks t n.0 n.1).names
 
   pub all_there : Reached p → NamesAreThere p t
-  all_there r = reached_state p (NamesAreThere p t) r (λ m st. names_there (plain_of p) (names_in p.spaces t) (tasked m t).names (task_names m (state_of p m st).1))
+  all_there r = reached_state p (NamesAreThere p t) r (λ m st. names_there (plain_of p) (names_of p.spaces t).names (tasked m t).names (task_names m (state_of p m st).1))
 
   pub in_spaces : Reached p → (0 < t) × (t ≤ length p.spaces)
   in_spaces r = reached_state p _ r (λ m st.
@@ -256,9 +252,21 @@ module _ (p : Parts) (t : ℕ) (task : is_task p.scenario t ≡ true) where
     some_map A f r own e = absurd (reached_state p ⊥ r (λ m st. works_seen m ⊥ st (λ f2 v g w bytes z.
         no_forming f.forming v (ap (λ (x : Frame). x.forming) (sym (same_frame (frame_of p.frames t) f f2 own z.own)) ∙ z.forms) e)))
 
+    same_map : (o : Option Indices) (a b : Indices) → o ≡ Some a → o ≡ Some b → b ≡ a
+    same_map o a b x y = cc
+
     pub keyed_map : (f : Frame) (v : Indices) → Reached p → frame_of p.frames t ≡ Some f → f.forming ≡ Some v → IsKeyed v
     keyed_map f v r own e = reached_state p _ r (λ m st. works_seen m _ st (λ f2 u g w bytes z.
         subst IsKeyed (same_map f.forming v u e (ap (λ (x : Frame). x.forming) (sym (same_frame (frame_of p.frames t) f f2 own z.own)) ∙ z.forms)) z.both.map.1))
+    -- the same where the code has the frame and its map in hand
+    pub works_at : (m : Machine) (A : Type 0) → Stands p m → (f : Frame) (v : Indices) → frame_of p.frames t ≡ Some f → f.forming ≡ Some v → ((g : machine.Frame) (w : Handles) (bytes : List ℕ) → Works m f v g w bytes → A) → A
+    works_at m A st f v own forms h = works_seen m A st (λ f2 v2 g w bytes z.
+        let e : f2 ≡ f = same_frame (frame_of p.frames t) f f2 own z.own in
+        by f2 v2 e (same_map f.forming v v2 forms (ap (λ (x : Frame). x.forming) (sym e) ∙ z.forms)) g w bytes z)
       where
-        same_map : (o : Option Indices) (a b : Indices) → o ≡ Some a → o ≡ Some b → b ≡ a
-        same_map o a b x y = cc
+        by : (f2 : Frame) (v2 : Indices) → f2 ≡ f → v2 ≡ v → (g : machine.Frame) (w : Handles) (bytes : List ℕ) → Works m f2 v2 g w bytes → A
+        by f2 v2 e q g w bytes z = h g w bytes (subst (λ x. Works m x v g w bytes) e (subst (λ u. Works m f2 u g w bytes) q z))
+
+    -- the call in hand of the code is the machine's
+    pub call_is : (m : Machine) (f : Frame) (v : Indices) (g : machine.Frame) (w : Handles) (bytes : List ℕ) → Stands p m → Works m f v g w bytes → nth_call p.scenario t (begun_of p.frames t) ≡ Some (calls.Create bytes)
+    call_is m f v g w bytes st z = ap (nth_call p.scenario t) (begun_is m (state_of p m st).1) ∙ z.both.create

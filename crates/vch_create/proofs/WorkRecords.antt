@@ -1,6 +1,6 @@
 -- A record by indices and by handles: what the core reads of it is what the machine makes of it.
-use Rattle.std.proofs.Common.{◌≡◌, ℕ, ◌==◌, ◌||◌, not, Bool, true, false, cond, List, [], ◌∷◌, refl, sym, ap, ◌∙◌, subst, length, Option, Some, None, Result, Ok, Err}
-use Rattle.std.specs.Prelude.{pos, ℤ}
+use Rattle.std.proofs.Common.{◌≡◌, ℕ, ◌==◌, ◌||◌, not, Bool, true, false, cond, List, [], refl, length, Option, Some, None, Result, Ok, Err}
+use Rattle.std.specs.Prelude.{ℤ}
 use Rattle.vch_base.specs.declared.fault.Code.{Code}
 use Rattle.vch_base.specs.declared.key.Key.{Key}
 use Rattle.vch_base.specs.Keys.{key_of}
@@ -14,9 +14,8 @@ use Rattle.vch_state.specs.Shape.{Indices, Optional, IsMap}
 use Rattle.vch_create.specs.declared.change.Deed.{Deed}
 use Rattle.vch_create.specs.declared.change.Deed.TheVariants as deeds
 use Rattle.vch_create.specs.declared.change.Change.{Change}
-use Rattle.vch_create.specs.declared.change.AtKeys.{AtKeys}
 use Rattle.vch_create.specs.declared.change.AtKeys.TheVariants as at
-use Rattle.vch_create.specs.Works.{one_key, keys_named, change_at, copy_at, change_of, change_found, change_named, first_change}
+use Rattle.vch_create.specs.Works.{one_key, keys_named, change_at, copy_at, change_of, change_found, first_change}
 use Rattle.vch_create.proofs.WorkMaps.{done}
 use Rattle.vch_create.proofs.WorkDeeds.{DeedIs}
 

@@ -1,18 +1,18 @@
 -- A reference more of an entry: what it leaves to be taken.
-use Rattle.std.proofs.Common.{◌≡◌, ◌≢◌, ℕ, suc, ◌+◌, ◌≤◌, ◌<◌, Bool, true, false, refl, arith, sym, ap, ◌∙◌, subst, List, Option, Some, None, inl, inr}
-use Rattle.std.specs.Prelude.{IsSome, ◌^◌}
+use Rattle.std.proofs.Common.{◌≡◌, ℕ, suc, ◌+◌, ◌≤◌, ◌<◌, true, false, refl, arith, sym, ap, ◌∙◌, subst, List, Option, Some, None, inl, inr}
+use Rattle.std.specs.Prelude.{IsSome}
 use Rattle.std.proofs.lemmas.Bool.{cases_eq}
 use Rattle.vch_base.specs.Managers.{Kept, count}
 use Rattle.vch_base.specs.declared.key.Key.{Key}
 use Rattle.vch_entry.specs.declared.table.Entry.{Entry}
-use Rattle.vch_entry.specs.Entries.{Entries, Writes, entry_at, handle_at, handle_of, refs_of, made_of, more_refs}
+use Rattle.vch_entry.specs.Entries.{Entries, entry_at, handle_at, handle_of, refs_of, made_of, more_refs}
 use Rattle.vch_value.specs.Picture as picture
 use Rattle.vch_value.specs.Picture.{Picture, shared_picture}
 use Rattle.vch_state.specs.Shape.{Indices, index_of}
 use Rattle.vch_state.specs.declared.frame.KeyIndex.{KeyIndex}
 use Rattle.vch_create.specs.declared.change.Deed.{Deed}
 use Rattle.vch_create.specs.declared.change.Deed.TheVariants as deeds
-use Rattle.vch_create.specs.Works.{Workspace, Shares, one_more, Keeps, HeldAt, shared_at, Puts, Changes, MayShare, CanDo, becomes}
+use Rattle.vch_create.specs.Works.{Workspace, Shares, one_more, Keeps, HeldAt, shared_at, Changes, MayShare, CanDo, becomes}
 
 -- what a call for one index says, of an index that may be none
 pub keeps_of : (old new : Entries) (i : ℕ) → IsSome (entry_at old.slots i)

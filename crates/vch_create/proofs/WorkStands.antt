@@ -1,41 +1,38 @@
 -- A record that was carried out keeps all that the parts stand for.
-use Rattle.std.proofs.Common.{◌≡◌, ◌≢◌, ℕ, ◌+◌, ◌-◌, ◌*◌, ◌<◌, ◌≤◌, ◌==◌, Bool, true, false, cond, List, [], ◌∷◌, ◌++◌, refl, arith, sym, ap, ◌∙◌, length, drop, append_assoc, subst, Option, Some, None}
-use Rattle.std.specs.List.{flat_map}
+use Rattle.std.proofs.Common.{◌≡◌, ◌≢◌, ℕ, ◌+◌, ◌-◌, ◌*◌, ◌<◌, ◌≤◌, Bool, true, false, cond, List, [], ◌∷◌, ◌++◌, refl, arith, sym, ap, ◌∙◌, length, drop, subst, Some, None}
 use Rattle.vch_base.specs.declared.key.Key.{Key}
 use Rattle.vch_base.specs.declared.key.Key.TheVariants as keys
 use Rattle.vch_base.specs.Managers.{Kept}
-use Rattle.vch_recipe.specs.Recipes.{First, One, first_of}
+use Rattle.vch_recipe.specs.Recipes.{One, first_of}
 use Rattle.vch_recipe.specs.declared.recipe.Recipe.{Recipe}
-use Rattle.vch_entry.specs.Entries.{Entries, handle_at, entry_at, made_of}
+use Rattle.vch_entry.specs.Entries.{Entries, handle_at}
 use Rattle.vch_value.specs.Picture as picture
 use Rattle.vch_value.specs.Picture.{Picture}
-use Rattle.vch_model.specs.declared.call.Call.{Call}
 use Rattle.vch_model.specs.declared.call.Call.TheVariants as calls
 use Rattle.vch_model.specs.declared.lists.Scenario.{Scenario}
 use Rattle.vch_machine.specs.State as machine
 use Rattle.vch_machine.specs.State.{of_key, Handles, Place, Machine, Tasked, tasked, is_empty}
 use Rattle.vch_machine.specs.Frames as frames
 use Rattle.vch_machine.specs.Working.{Worked}
-use Rattle.vch_machine.specs.Next.{current, nth_call}
+use Rattle.vch_machine.specs.Next.{current}
 use Rattle.vch_legal.specs.Facts.{Fits}
 use Rattle.vch_legal.proofs.Forming.{rest_of}
 use Rattle.vch_legal.proofs.Creates.{behind}
 use Rattle.vch_state.specs.declared.frame.Frame.{Frame}
 use Rattle.vch_state.specs.declared.frame.Claiming.{Claiming}
 use Rattle.vch_state.specs.declared.frame.KeyIndex.{KeyIndex}
-use Rattle.vch_state.specs.Plain.{Plain, Part, KeyParts, part_of, with_frame}
-use Rattle.vch_state.specs.Shape.{Indices, Shape, Pairwise, Optional, IsIndexOf, IsMap, IsLet, IsFrame, IsTask, slots_of, keys_left}
-use Rattle.vch_state.specs.UserOnly.{AsksUserOnly, Begins, FormsUser}
+use Rattle.vch_state.specs.Plain.{Plain, part_of}
+use Rattle.vch_state.specs.Shape.{Indices, Shape, Pairwise, IsIndexOf, IsLet, IsFrame, IsTask, slots_of, keys_left}
+use Rattle.vch_state.specs.UserOnly.{AsksUserOnly, FormsUser}
 use Rattle.vch_state.specs.Pictures.{picture_of}
 use Rattle.vch_state.specs.Bounds.{rank, makes, open_of, TaskSpent}
 use Rattle.vch_state.specs.Stands.{StandsFor, KeyStands}
 use Rattle.vch_state.specs.Moves.{with_values, with_frame_at}
 use Rattle.vch_state.proofs.Stable.{task_stays, map_stays}
-use Rattle.vch_state.proofs.Replaced.{held_before, held_behind, receipts_before, receipts_behind, claims_before, claims_behind, picture_by, picture_now, picture_then, shape_then, framed}
+use Rattle.vch_state.proofs.Replaced.{held_before, held_behind, receipts_before, receipts_behind, claims_before, claims_behind, picture_now, picture_then, shape_then, framed}
 use Rattle.vch_state.proofs.Spending.{Paid, paid_then, unanswered_then, begun_then, open_then}
-use Rattle.vch_state.proofs.Keys.{of_with, each_key, cells_same}
+use Rattle.vch_state.proofs.Keys.{each_key, cells_same}
 use Rattle.vch_state.proofs.FrameParts.{frames_of}
-use Rattle.vch_create.specs.Works.{Workspace}
 use Rattle.vch_create.proofs.Quiet.{forming_frame, forming_machine}
 use Rattle.vch_create.proofs.WorkMaps.{OnlyUser, Related, P}
 
@@ -71,7 +68,7 @@ module _ (sc : Scenario) (c : Plain) (m : Machine) (t : ℕ) (positive : 0 < t) 
   picture_is only = picture_now keys.User c m t s.shape.long inside ∙ rw (own, twin) refl
 
   module _ (only : OnlyUser c) (e2 : Entries) (v2 : Indices) (ls : List KeyIndex) (next : ℕ) (z : Worked)
-      (few : length z.left ≤ 3) (next_is : next ≡ place + size)
+      (few : length z.left ≤ 6) (next_is : next ≡ place + size)
       (related : Related c (record { entries = e2; map = v2; lets = ls }) z)
       (counts : picture.Stands (P_of only z) e2 kept_now) where
     abbrev pub F2 : Frame
@@ -153,7 +150,7 @@ module _ (sc : Scenario) (c : Plain) (m : Machine) (t : ℕ) (positive : 0 < t) 
         omega (arith, a, b)
 
     less_rank : rank (Some (calls.Create bytes)) (Some G2) ≤ rank (Some (calls.Create bytes)) (Some (forming_machine w place ks))
-    less_rank = by (if is_empty ks then 12 else 3 * length ks)
+    less_rank = by (cond (is_empty ks) 12 (3 * length ks))
       where
         by : (n : ℕ) → length z.left + (16 * length (drop (place + size) bytes) + n) ≤ 0 + (16 * length (drop place bytes) + n)
         by n = let a = left_bytes in omega (arith, a, few)

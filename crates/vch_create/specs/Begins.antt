@@ -4,6 +4,8 @@ use Rattle.vch_model.specs.Replies.{refused}
 use Rattle.vch_model.specs.declared.call.Call.{Call}
 use Rattle.vch_model.specs.declared.call.Call.TheVariants as calls
 use Rattle.vch_model.specs.declared.entry.Reply.{Reply}
+use Rattle.vch_create.specs.declared.begin.Demand.{Demand}
+use Rattle.vch_create.specs.declared.begin.Demand.TheVariants as of
 use Rattle.vch_model.specs.declared.entry.Reply.TheVariants as replies
 
 -- the call is a create of so many bytes
@@ -18,3 +20,9 @@ is_answered n = (n == 0) || nat_lt 5120 n
 -- and this is its answer: no voucher for no bytes, else a refusal
 abbrev pub answer : ℕ → Reply
 answer n = if nat_lt 5120 n then refused (negsuc 306) else replies.Created 0
+
+-- what a call asks of Begin
+abbrev pub demand_of : Option Call → Demand
+demand_of (Some (calls.Create bytes)) = of.Create (length bytes)
+demand_of (Some (calls.GiveUp name)) = of.GiveUp name
+demand_of call = of.Other

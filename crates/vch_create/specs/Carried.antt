@@ -1,5 +1,5 @@
 -- The record that a task's frame comes to next.
-use Rattle.std.specs.Prelude.{◌≡◌, ℕ, List, Option, Some, Result, Ok}
+use Rattle.std.specs.Prelude.{◌≡◌, ℕ, List, Some, Result}
 use Rattle.vch_base.specs.declared.fault.Code.{Code}
 use Rattle.vch_model.specs.declared.call.Call.TheVariants as calls
 use Rattle.vch_machine.specs.Next.{nth_call}

@@ -4,3 +4,5 @@ pub mod Refusals
 pub mod Works
 pub mod Carried
 pub mod Makes
+pub mod Gives
+pub mod Drops

@@ -1,5 +1,5 @@
 -- A record that asks no manager, by indices: which keys of the map it changes, and to what.
-use Rattle.std.specs.Prelude.{◌≡◌, ℕ, ◌+◌, ◌<◌, ◌≤◌, ◌^◌, ◌==◌, ◌||◌, not, if◌then◌else◌, List, [], ◌++◌, length, drop, Option, Some, None, Result, Ok, Err, IfSome, IsSome, IfOk, IfErr, pos}
+use Rattle.std.specs.Prelude.{◌≡◌, ℕ, ◌+◌, ◌<◌, ◌≤◌, ◌^◌, ◌==◌, ◌||◌, not, if◌then◌else◌, List, ◌++◌, length, drop, Option, Some, None, Result, Ok, Err, IfSome, IsSome, IfOk, IfErr, pos}
 use Rattle.vch_base.specs.declared.fault.Code.{Code}
 use Rattle.vch_base.specs.declared.key.Key.{Key}
 use Rattle.vch_base.specs.declared.key.Key.TheVariants as keys
@@ -7,7 +7,6 @@ use Rattle.vch_base.specs.Keys.{number_of, key_of}
 use Rattle.vch_base.specs.Managers.{Kept, count}
 use Rattle.vch_base.specs.Slots.{slot_at}
 use Rattle.vch_recipe.specs.Recipes.{First, One, first_of}
-use Rattle.vch_recipe.specs.declared.recipe.Recipe.{Recipe}
 use Rattle.vch_entry.specs.declared.table.Entry.{Entry}
 use Rattle.vch_entry.specs.Entries.{Entries, Writes, entry_at, handle_at, refs_of, more_refs}
 use Rattle.vch_value.specs.Picture as picture
@@ -20,8 +19,8 @@ use Rattle.vch_machine.specs.Naming.{same_handle}
 use Rattle.vch_machine.specs.Working.{size_of}
 use Rattle.vch_state.specs.declared.frame.KeyIndex.{KeyIndex}
 use Rattle.vch_state.specs.declared.parts.Parts.{Parts}
+use Rattle.vch_state.specs.Plain.{names_of}
 use Rattle.vch_state.specs.Shape.{Indices, index_of, IsKeyed}
-use Rattle.vch_state.specs.Lookups.{names_in}
 use Rattle.vch_create.specs.declared.change.Deed.{Deed}
 use Rattle.vch_create.specs.declared.change.Deed.TheVariants as deeds
 use Rattle.vch_create.specs.declared.change.Change.{Change}
@@ -93,14 +92,14 @@ abbrev pub voucher_in : List Named → List (Option Cell) → ℕ → Option Ind
 voucher_in names table name = slot_indices table (looked (by_name names name))
 
 abbrev pub voucher_of : Parts → ℕ → ℕ → Option Indices
-voucher_of p t name = voucher_in (names_in p.spaces t) p.vouchers name
+voucher_of p t name = voucher_in (names_of p.spaces t).names p.vouchers name
 
 -- each name has a voucher
 abbrev pub IsThere : List (Option Cell) → Option ℕ → Type 0
 IsThere table slot = IfSome slot (λ s. IsSome (slot_at table s))
 
 abbrev pub NamesAreThere : Parts → ℕ → Type 0
-NamesAreThere p t = (name : ℕ) → IsThere p.vouchers (looked (by_name (names_in p.spaces t) name))
+NamesAreThere p t = (name : ℕ) → IsThere p.vouchers (looked (by_name (names_of p.spaces t).names name))
 
 -- the answer is what the first of some bytes does, and where the next record stands
 pub record Reads (names : ℕ → Option Indices) (bytes : List ℕ) (place : ℕ) (result : Result Record Code) : Type 0 where

@@ -1,4 +1,5 @@
 ghost use Rattle.std.specs.Prelude.{◌≡◌, ◌+◌, [], Some, None, IsTrue, false};
+ghost use Rattle.std.specs.Option.{option_copied};
 ghost use Rattle.vch_base.specs.declared.kind.Kind.TheVariants as kinds;
 ghost use Rattle.vch_model.specs.Lines.{is_task};
 ghost use Rattle.vch_machine.specs.Next.{nth_call};
@@ -6,8 +7,9 @@ ghost use Rattle.vch_state.specs.Plain.{frame_of, begun_of};
 ghost use Rattle.vch_state.specs.Reached.{Reached, Follows, IsNext};
 ghost use Rattle.vch_state.specs.UserOnly.{IsUserOnly};
 ghost use Rattle.vch_state.specs.declared.frame.Claiming.{Claiming};
-ghost use Rattle.vch_create.specs.Begins.{IsCreateOf, is_answered, answer};
+ghost use Rattle.vch_create.specs.Begins.{IsCreateOf, is_answered, answer, demand_of};
 
+use crate::give_up::begin_drop;
 use crate::refuse::created;
 use vch_base::Code;
 use vch_model::{Call, Reply};
@@ -83,5 +85,44 @@ fn begin_create(parts: &mut Parts, task: u32, size: usize)
         answer_create(parts, task, size);
     } else {
         form_create(parts, task, size);
+    }
+}
+
+/// What a call asks of Begin.
+#[derive(Clone, Copy, Debug)]
+enum Demand {
+    Create { size: usize },
+    GiveUp { name: u32 },
+    Other,
+}
+
+fn demand_of(call: Option<&Call>) -> Demand
+    ensures { result ≡ demand_of (option_copied call.entry) }
+{
+    match call {
+        Some(Call::Create { bytes }) => Demand::Create {
+            size: bytes.as_slice().len(),
+        },
+        Some(Call::GiveUp { name }) => Demand::GiveUp { name: *name },
+        _ => Demand::Other,
+    }
+}
+
+/// Begin: the task takes its next call. A drop, and a create of no bytes or of too many, are answered at once; any other
+/// create gets a frame. It takes no memory. A create takes constant time, and a drop time linear in the number of the
+/// task's names.
+pub fn begin(parts: &mut Parts, task: u32)
+    requires reached { Reached parts.old }
+    requires task { IsTrue (is_task parts.old.scenario task) }
+    requires built { IsUserOnly parts.old.scenario }
+    requires next { IsNext parts.old task (Some kinds.Begin) }
+    requires idle { frame_of parts.old.frames task ≡ None }
+    ensures { Follows kinds.Begin task parts.old parts.new }
+{
+    let number = parts.frames.at(task).begun + 1;
+    match demand_of(parts.scenario.call(task, number)) {
+        Demand::Create { size } => begin_create(parts, task, size),
+        Demand::GiveUp { name } => begin_drop(parts, task, name),
+        Demand::Other => {}
     }
 }

@@ -1,6 +1,5 @@
-ghost use Rattle.std.specs.Prelude.{◌≡◌, ◌≤◌, ◌+◌, length};
+ghost use Rattle.std.specs.Prelude.{◌≡◌, ◌≤◌, length};
 ghost use Rattle.vch_machine.specs.Naming.{same_handle};
-ghost use Rattle.vch_state.specs.Shape as shape;
 ghost use Rattle.vch_state.specs.Shape.{IsKeyed};
 ghost use Rattle.vch_create.specs.Works as works;
 ghost use Rattle.vch_create.specs.Works.{CanChange, CanDo, Changes, ChangesAt, ChangesBy, Keeps, MayShare, Puts, Shares};
@@ -64,7 +63,7 @@ fn becomes(deed: &Deed, map: &Indices, key: Key) -> Option<Option<u32>>
 }
 
 /// Takes one more reference of an entry, if there is one.
-fn share(entries: &mut EntryTable, index: Option<u32>)
+fn share_index(entries: &mut EntryTable, index: Option<u32>)
     requires { MayShare 1 entries.old index }
     ensures shares { Shares entries.old index entries.new }
     ensures keeps { Keeps entries.old index entries.new }
@@ -82,7 +81,7 @@ fn put(entries: &mut EntryTable, map: &mut Indices, lets: &mut Lets, key: Key, i
     requires room { length lets.old ≤ 11 }
     ensures { Puts (record { entries = entries.old; map = map.old; lets = lets.old }) key index (record { entries = entries.new; map = map.new; lets = lets.new }) }
 {
-    share(entries, index);
+    share_index(entries, index);
     let_one_go(lets, map, key);
     map.set(key.number(), index);
     map.know();
@@ -101,7 +100,13 @@ fn change_key(entries: &mut EntryTable, map: &mut Indices, lets: &mut Lets, key:
 }
 
 /// Carries a deed out at its keys.
-fn change_keys(entries: &mut EntryTable, map: &mut Indices, lets: &mut Lets, keys: AtKeys, deed: &Deed)
+fn change_keys(
+    entries: &mut EntryTable,
+    map: &mut Indices,
+    lets: &mut Lets,
+    keys: AtKeys,
+    deed: &Deed,
+)
     requires shares { CanDo 3 entries.old deed.now }
     requires keyed { IsKeyed map.old }
     requires room { length lets.old ≤ 9 }
@@ -119,7 +124,12 @@ fn change_keys(entries: &mut EntryTable, map: &mut Indices, lets: &mut Lets, key
 
 /// Carries a change of a map out, if there is one: entries get references, and what leaves the map is to be let go of. It
 /// takes constant time and no memory.
-pub fn change_map(entries: &mut EntryTable, map: &mut Indices, lets: &mut Lets, change: &Option<Change>)
+pub fn change_map(
+    entries: &mut EntryTable,
+    map: &mut Indices,
+    lets: &mut Lets,
+    change: &Option<Change>,
+)
     requires shares { CanChange entries.old change.now }
     requires keyed { IsKeyed map.old }
     requires room { length lets.old ≤ 9 }

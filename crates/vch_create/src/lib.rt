@@ -5,6 +5,7 @@ mod asking;
 mod begin;
 mod change;
 mod flying;
+mod give_up;
 mod make;
 mod place;
 mod question;

@@ -1,4 +1,4 @@
-ghost use Rattle.std.specs.Prelude.{◌≡◌, ◌≤◌, ◌<◌, ◌==◌, ◌+◌, IfOk, IfErr, IsTrue, length, pos};
+ghost use Rattle.std.specs.Prelude.{◌≡◌, ◌≤◌, ◌<◌, length};
 ghost use Rattle.vch_create.specs.Works as works;
 ghost use Rattle.vch_create.specs.Works.{NamesAreThere, Reads, keys_named};
 
@@ -15,8 +15,19 @@ pub struct Record {
     pub next: usize,
 }
 
-/// The number of a key that stands for all keys.
+/// The number that stands for all keys, and the commands of a record that asks no manager. They are the kernel release's.
 const ALL_KEYS: u32 = 4294967295;
+const NOTHING: u32 = 0;
+const COPY: u32 = 1;
+const REMOVE: u32 = 2;
+const SET_VALUE: u32 = 3;
+const AUTO_REDEEM: u32 = 4;
+const PREPROCESS: u32 = 5;
+
+/// The codes of what can't be read, of what is not built in, and of a voucher that is not there.
+pub const INVALID: Code = Code { number: 4 };
+const NOT_BUILT: Code = Code { number: 8 };
+const NO_VOUCHER: Code = Code { number: 20 };
 
 /// The keys that a number stands for, or nothing where it is no key of a manager.
 fn keys_named(number: u32) -> Option<AtKeys>
@@ -37,7 +48,7 @@ fn change_at(key: u32, deed: Deed) -> Result<Option<Change>, Code>
 {
     match keys_named(key) {
         Some(keys) => Ok(Some(Change { keys, deed })),
-        None => Err(Code { number: 4 }),
+        None => Err(INVALID),
     }
 }
 
@@ -52,22 +63,21 @@ fn copy_at(key: u32, previous: Option<Indices>) -> Result<Option<Change>, Code>
 }
 
 /// What a record with its previous voucher does, or a code.
-fn change_of(command: u32, key: u32, size: usize, previous: Option<Indices>) -> Result<Option<Change>, Code>
+fn change_of(
+    command: u32,
+    key: u32,
+    size: usize,
+    previous: Option<Indices>,
+) -> Result<Option<Change>, Code>
     ensures { result ≡ works.change_of command key size previous }
 {
     match command {
-        3 | 4 | 5 => Err(Code { number: 8 }),
-        0 | 1 | 2 => {
-            if size != 0 {
-                return Err(Code { number: 4 });
-            }
-            match command {
-                0 => Ok(None),
-                1 => copy_at(key, previous),
-                _ => change_at(key, Deed::Remove { from: previous }),
-            }
-        }
-        _ => Err(Code { number: 4 }),
+        SET_VALUE | AUTO_REDEEM | PREPROCESS => Err(NOT_BUILT),
+        NOTHING | COPY | REMOVE if size != 0 => Err(INVALID),
+        NOTHING => Ok(None),
+        COPY => copy_at(key, previous),
+        REMOVE => change_at(key, Deed::Remove { from: previous }),
+        _ => Err(INVALID),
     }
 }
 
@@ -77,14 +87,21 @@ pub fn voucher_of(parts: &Parts, task: u32, name: u32) -> Option<Indices>
     requires there { NamesAreThere parts.now task }
     ensures { result ≡ works.voucher_of parts.now task name }
 {
-    match parts.spaces.look(task, name) {
+    match parts.spaces.at(task).look(name) {
         Some(slot) => Some(parts.vouchers.indices(slot)),
         None => None,
     }
 }
 
 /// What a record does with the previous voucher that it names; a name that is 0 names none.
-fn change_named(parts: &Parts, task: u32, command: u32, key: u32, size: usize, name: u32) -> Result<Option<Change>, Code>
+fn change_named(
+    parts: &Parts,
+    task: u32,
+    command: u32,
+    key: u32,
+    size: usize,
+    name: u32,
+) -> Result<Option<Change>, Code>
     requires task { (0 < task) × (task ≤ length parts.now.spaces) }
     requires there { NamesAreThere parts.now task }
     ensures { result ≡ works.change_named (works.voucher_of parts.now task) command key size name }
@@ -94,7 +111,7 @@ fn change_named(parts: &Parts, task: u32, command: u32, key: u32, size: usize, n
     }
     match voucher_of(parts, task, name) {
         Some(from) => change_of(command, key, size, Some(from)),
-        None => Err(Code { number: 20 }),
+        None => Err(NO_VOUCHER),
     }
 }
 
@@ -116,6 +133,6 @@ pub fn read_record(parts: &Parts, task: u32, bytes: &[u8], at: usize) -> Result<
             let change = change_named(parts, task, command, key, content.len(), previous)?;
             Ok(Record { change, next })
         }
-        _ => Err(Code { number: 4 }),
+        Step::End | Step::HeaderCut { .. } | Step::ContentCut { .. } => Err(INVALID),
     }
 }

@@ -6,7 +6,7 @@ ghost use Rattle.vch_state.specs.Reached.{Reached, Follows, IsNext, value_kind};
 ghost use Rattle.vch_create.specs.Carried.{ReadsNext};
 
 use crate::change::change_map;
-use crate::record::{Record, read_record};
+use crate::record::{INVALID, Record, read_record};
 use crate::refuse::refuse;
 use vch_base::Code;
 use vch_model::Call;
@@ -21,12 +21,13 @@ fn read(parts: &Parts, task: u32) -> Result<Record, Code>
     ensures { ReadsNext parts.now task result }
 {
     let working = parts.frames.at(task);
-    match (&working.frame, parts.scenario.call(task, working.begun)) {
-        (Some(frame), Some(Call::Create { bytes })) => {
-            read_record(parts, task, bytes.as_slice(), frame.at)
-        }
-        _ => Err(Code { number: 4 }),
-    }
+    let Some(frame) = &working.frame else {
+        return Err(INVALID);
+    };
+    let Some(Call::Create { bytes }) = parts.scenario.call(task, working.begun) else {
+        return Err(INVALID);
+    };
+    read_record(parts, task, bytes.as_slice(), frame.at)
 }
 
 /// Carries out a record that was read.

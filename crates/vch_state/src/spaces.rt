@@ -1,6 +1,6 @@
 ghost use Rattle.std.specs.Prelude.{◌≡◌, ◌≤◌, ◌<◌, ◌+◌, ◌-◌, ◌++◌, ◌∷◌, [], OnOk, OnErr, length};
-ghost use Rattle.vch_ports.specs.Names.{Adds, AllReferencesBelow, GivesUp, by_name, looked};
-ghost use Rattle.vch_state.specs.Lookups.{names_in};
+ghost use Rattle.vch_ports.specs.Names.{Adds, AllReferencesBelow, GivesUp};
+ghost use Rattle.vch_state.specs.Lookups.{AllSpaced};
 ghost use Rattle.vch_state.specs.Plain.{names_of, with_names_of};
 
 use std::alloc::Global;
@@ -17,10 +17,13 @@ pub struct Spaces {
 impl Model for Spaces {
     ghost use Rattle.std.specs.Prelude.{List};
     ghost use Rattle.vch_ports.specs.Names.{Names};
+    ghost use Rattle.vch_state.specs.Lookups.{AllSpaced};
 
     ghost Value = { List Names };
 
     ghost view = { λ s. s.items.items };
+
+    ghost invariant = { λ s. AllSpaced s.items.items };
 }
 
 impl Spaces {
@@ -38,8 +41,16 @@ impl Spaces {
         ensures ok { OnOk result (self.new ≡ self.old ++ space ∷ []) }
         ensures err { OnErr result (self.new ≡ self.old) }
     {
+        space.know();
         self.items.push(space)?;
         Ok(())
+    }
+
+    /// The names of every task are different and so are their slots, and each has a user reference. It does nothing.
+    pub fn know(&self)
+        ensures { AllSpaced self.now }
+    {
+        let _ = &self.items;
     }
 
     /// The names of a task.
@@ -50,15 +61,6 @@ impl Spaces {
         &self.items[task as usize - 1]
     }
 
-    /// The slot of a name of a task, or nothing where the task has no such name. The time is linear in the number of its
-    /// names.
-    pub fn look(&self, task: u32, name: u32) -> Option<u32>
-        requires task { (0 < task) × (task ≤ length self.now) }
-        ensures { result ≡ looked (by_name (names_in self.now task) name) }
-    {
-        self.items[task as usize - 1].look(name)
-    }
-
     /// Makes room for one new name of a task. The one error is want of memory.
     pub fn reserve(&mut self, task: u32) -> Result<(), NoMemory>
         requires task { (0 < task) × (task ≤ length self.old) }
@@ -67,7 +69,10 @@ impl Spaces {
         ensures next { (names_of self.new task).next ≡ (names_of self.old task).next }
         ensures others { self.new ≡ with_names_of self.old task (names_of self.new task) }
     {
-        self.items[task as usize - 1].reserve()
+        let space = &mut self.items[task as usize - 1];
+        let answer = space.reserve();
+        space.know();
+        answer
     }
 
     /// Gives a task a voucher by its slot. It takes no memory, since [`Spaces::reserve`] made room.
@@ -79,7 +84,10 @@ impl Spaces {
         ensures adds { Adds (names_of self.old task) slot result (names_of self.new task) }
         ensures others { self.new ≡ with_names_of self.old task (names_of self.new task) }
     {
-        self.items[task as usize - 1].add(slot)
+        let space = &mut self.items[task as usize - 1];
+        let answer = space.add(slot);
+        space.know();
+        answer
     }
 
     /// Takes one user reference from a name of a task; the name goes with the last.
@@ -89,6 +97,9 @@ impl Spaces {
         ensures next { (names_of self.new task).next ≡ (names_of self.old task).next }
         ensures others { self.new ≡ with_names_of self.old task (names_of self.new task) }
     {
-        self.items[task as usize - 1].give_up(name)
+        let space = &mut self.items[task as usize - 1];
+        let answer = space.give_up(name);
+        space.know();
+        answer
     }
 }

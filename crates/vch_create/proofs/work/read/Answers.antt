@@ -1,4 +1,5 @@
-use Rattle.std.proofs.Common.{ℕ, ◌≤◌, List, length, ◌∙◌, sym, ap, refl, subst}
+use Rattle.std.proofs.Common.{ℕ, ◌≤◌, List, length, Some, ◌∙◌, sym, ap, subst}
+use Rattle.std.specs.Option.{option_copied}
 use Rattle.vch_machine.specs.Next.{nth_call}
 use Rattle.vch_state.specs.declared.frames.Working.{Working}
 use Rattle.vch_create.proofs.WorkNext.{in_workings, in_spaces, all_there, inside}
@@ -15,6 +16,6 @@ read_record-requires-clause-there c = all_there c.args.parts.now c.args.task c.r
 
 pub read_record-requires-clause-inside : goal.read_record-requires-clause-inside
 read_record-requires-clause-inside c =
-    subst (λ (bytes : List ℕ). c.in-Some-Some-Create.frame.at ≤ length bytes) (sym c.as_slice.ensures)
-    (inside c.args.parts.now c.args.task c.requires.task c.requires.next c.requires.idle c.requires.reached c.in-Some-Some-Create.frame c.in-Some-Some-Create.bytes (sym (ap (λ (w : Working). w.frame) c.at-working.ensures) ∙ c.in-Some-Some-Create.is-0)
-    (sym (c.in-Some-Some-Create.ensures ∙ ap (λ (w : Working). nth_call c.args.parts.now.scenario c.args.task w.begun) c.at-working.ensures)))
+    subst (λ (bytes : List ℕ). c.in-Some.frame.at ≤ length bytes) (sym c.as_slice.ensures)
+    (inside c.args.parts.now c.args.task c.requires.task c.requires.next c.requires.idle c.requires.reached c.in-Some.frame c.in-Some-Create.bytes (sym (ap (λ (w : Working). w.frame) c.at-working.ensures) ∙ c.in-Some.is)
+    (sym (ap (λ (w : Working). nth_call c.args.parts.now.scenario c.args.task w.begun) c.at-working.ensures) ∙ (sym c.call.ensures ∙ (ap option_copied c.in-Some-Create.is ∙ ap Some c.in-Some-Create.field-0-is))))

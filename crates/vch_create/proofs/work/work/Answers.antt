@@ -1,3 +1,6 @@
+use Rattle.std.proofs.Common.{subst}
+use Rattle.vch_create.specs.Carried.{ReadsNext}
+use Rattle.vch_create.proofs.WorkEvent.{refusal_follows}
 use Rattle.vch_create.proofs.WorkNext.{forms_there}
 use Rattle.vch_create.proofs.work.work.Goals as goal
 
@@ -5,4 +8,5 @@ pub refuse-requires-clause-forms : goal.refuse-requires-clause-forms
 refuse-requires-clause-forms c = forms_there c.args.parts.now c.args.task c.requires.task c.requires.next c.requires.idle c.requires.reached
 
 pub returns-in-Err : goal.returns-in-Err
-returns-in-Err c = ?
+returns-in-Err c =
+    refusal_follows c.args.parts.now c.args.task c.requires.task c.requires.next c.requires.idle c.in-Err.code (subst (ReadsNext c.args.parts.now c.args.task) c.in-Err.is c.read.ensures) c.refuse.new.parts c.refuse.ensures

@@ -1,7 +1,7 @@
 use Rattle.std.proofs.Common.{sym, subst}
 use Rattle.vch_create.specs.Works.{Keeps, MayShare}
 use Rattle.vch_create.proofs.WorkShares.{keeps_of}
-use Rattle.vch_create.proofs.change.share.Goals as goal
+use Rattle.vch_create.proofs.change.share_index.Goals as goal
 
 pub returns-in-Some-clause-keeps : goal.returns-in-Some-clause-keeps
 returns-in-Some-clause-keeps c =
