@@ -105,7 +105,7 @@ formed_related : (c : Plain) (bytes : List ℕ) → AsksUserOnly bytes → IsFra
 formed_related c bytes user = record { forming = map_empty c; at_byte = refl; keys_ = refl; receipt = tt; lets = tt; claim = tt; forms = user; takes = tt }
 
 -- frames of which one begins a call and gets a frame
-frames_begin : (fs : List Working) (t : ℕ) (f : Option Frame) → t - 1 < length fs → with_frame_of (with_begun_of fs t) t f ≡ set fs (t - 1) (record { begun = begun_of fs t + 1; frame = f })
+pub frames_begin : (fs : List Working) (t : ℕ) (f : Option Frame) → t - 1 < length fs → with_frame_of (with_begun_of fs t) t f ≡ set fs (t - 1) (record { begun = begun_of fs t + 1; frame = f })
 frames_begin fs t f l =
     let w : Working = record { begun = begun_of fs t + 1; frame = frame_of fs t } in
     ap (λ (x : Working). set (set fs (t - 1) w) (t - 1) (record x { frame = f })) (get_or-set_same fs (t - 1) w resting l) ∙ set-set fs (t - 1) w (record { begun = begun_of fs t + 1; frame = f })
@@ -127,7 +127,7 @@ module _ (p : Parts) (t : ℕ) (task : is_task p.scenario t ≡ true) (r : Reach
   module _ (next : IsNext p t (Some kinds.Begin)) (idle : frame_of p.frames t ≡ None) where
     -- the state before
     module _ (m : Machine) (st : IsState p.scenario (plain_of p) m) (s : StandsFor p.scenario (keys.User ∷ []) (plain_of p) m) where
-      range : (0 < t) × (t - 1 < length (plain_of p).tasks)
+      pub range : (0 < t) × (t - 1 < length (plain_of p).tasks)
       range = in_parts p.scenario (keys.User ∷ []) (plain_of p) m t s task
 
       inside : t - 1 < length m.tasks
@@ -146,7 +146,7 @@ module _ (p : Parts) (t : ℕ) (task : is_task p.scenario t ≡ true) (r : Reach
       pub number_is : begun_of p.frames t ≡ (tasked m t).begun
       number_is = sym (own_begun p m t s task) ∙ (s.shape.tasks t range.0 range.1).begun
 
-      call_is : (call : Call) → nth_call p.scenario t (begun_of p.frames t + 1) ≡ Some call → nth_call p.scenario t ((tasked m t).begun + 1) ≡ Some call
+      pub call_is : (call : Call) → nth_call p.scenario t (begun_of p.frames t + 1) ≡ Some call → nth_call p.scenario t ((tasked m t).begun + 1) ≡ Some call
       call_is call e = ap (λ n. nth_call p.scenario t (n + 1)) (sym number_is) ∙ e
 
       pub kind_is : next_kind p.scenario m t ≡ Some kinds.Begin

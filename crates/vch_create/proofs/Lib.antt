@@ -38,5 +38,10 @@ pub mod Tables
 pub mod Kept
 pub mod Placed
 pub mod References
+pub mod NamesLess
+pub mod SlotsLess
+pub mod Still
+pub mod Dropped
 pub mod PlaceEvent
+pub mod DropEvent
 pub mod BeginCalls

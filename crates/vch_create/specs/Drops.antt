@@ -1,12 +1,9 @@
 -- How a task gives up a name.
-use Rattle.std.specs.Prelude.{◌≡◌, ℕ, ◌==◌, Bool, true, false, if◌then◌else◌, List, [], Option, Some, None, IsSome, pos}
+use Rattle.std.specs.Prelude.{◌≡◌, ℕ, ◌==◌, Bool, true, false, if◌then◌else◌, List, [], Option, Some, None, pos}
 use Rattle.vch_base.specs.Slots.{slot_at, Writes}
 use Rattle.vch_table.specs.declared.table.Cell.{Cell}
 use Rattle.vch_table.specs.Vouchers.{less, given_back}
-use Rattle.vch_ports.specs.Names.{by_name}
 use Rattle.vch_model.specs.Replies.{refused}
-use Rattle.vch_model.specs.declared.call.Call.{Call}
-use Rattle.vch_model.specs.declared.call.Call.TheVariants as calls
 use Rattle.vch_model.specs.declared.entry.Reply.{Reply}
 use Rattle.vch_model.specs.declared.entry.Reply.TheVariants as replies
 use Rattle.vch_state.specs.declared.frame.Frame.{Frame}
@@ -17,15 +14,6 @@ use Rattle.vch_state.specs.Plain.{SlotName}
 use Rattle.vch_state.specs.Shape.{Indices}
 use Rattle.vch_create.specs.Formed.{items}
 use Rattle.vch_create.specs.declared.give_up.GivenUp.{GivenUp}
-
--- the call is a drop of this name
-abbrev pub IsDropOf : ℕ → Option Call → Type 0
-IsDropOf n call = call ≡ Some (calls.GiveUp n)
-
--- the slot of a name is live, where the name is there
-abbrev pub IsLiveAt : List (Option Cell) → Option SlotName → Type 0
-IsLiveAt table None = Unit {0}
-IsLiveAt table (Some x) = IsSome (slot_at table x.slot)
 
 -- a slot has one reference less, and its voucher comes out with the last
 abbrev pub Loses : Option Cell → List (Option Cell) → List (Option Cell) → ℕ → Option Indices → Type 0

@@ -1,12 +1,14 @@
 ghost use Rattle.std.specs.Prelude.{◌≡◌, ◌≤◌, ◌<◌, ◌+◌, Some, None, IsTrue, length};
 ghost use Rattle.vch_base.specs.declared.kind.Kind.TheVariants as kinds;
 ghost use Rattle.vch_model.specs.Lines.{is_task};
+ghost use Rattle.vch_model.specs.declared.call.Call.TheVariants as calls;
 ghost use Rattle.vch_machine.specs.Next.{nth_call};
 ghost use Rattle.vch_table.specs.Vouchers.{live_slots};
-ghost use Rattle.vch_ports.specs.Names.{by_name, given_up};
+ghost use Rattle.vch_ports.specs.Names.{by_name, given_up, looked};
 ghost use Rattle.vch_state.specs.Plain.{frame_of, begun_of, names_of, with_names_of};
 ghost use Rattle.vch_state.specs.Reached.{Reached, Follows, IsNext};
-ghost use Rattle.vch_create.specs.Drops.{Drops, IsDropOf, IsLiveAt, drop_answer, leaving};
+ghost use Rattle.vch_create.specs.Drops.{Drops, drop_answer, leaving};
+ghost use Rattle.vch_create.specs.Works.{IsThere};
 
 use crate::refuse::let_go_of;
 use vch_base::Code;
@@ -31,7 +33,7 @@ fn give_name_up(
     name: u32,
 ) -> GivenUp
     requires task { (0 < task) × (task ≤ length spaces.old) }
-    requires live { IsLiveAt vouchers.old (by_name (names_of spaces.old task).names name) }
+    requires live { IsThere vouchers.old (looked (by_name (names_of spaces.old task).names name)) }
     ensures drops { Drops (by_name (names_of spaces.old task).names name) vouchers.old vouchers.new result }
     ensures names { (names_of spaces.new task).names ≡ given_up (by_name (names_of spaces.old task).names name) name (names_of spaces.old task).names }
     ensures next { (names_of spaces.new task).next ≡ (names_of spaces.old task).next }
@@ -101,7 +103,7 @@ pub fn begin_drop(parts: &mut Parts, task: u32, name: u32)
     requires task { IsTrue (is_task parts.old.scenario task) }
     requires next { IsNext parts.old task (Some kinds.Begin) }
     requires idle { frame_of parts.old.frames task ≡ None }
-    requires call { IsDropOf name (nth_call parts.old.scenario task (begun_of parts.old.frames task + 1)) }
+    requires call { nth_call parts.old.scenario task (begun_of parts.old.frames task + 1) ≡ Some (calls.GiveUp name) }
     ensures { Follows kinds.Begin task parts.old parts.new }
 {
     parts.spaces.know();

@@ -1,38 +1,32 @@
-use Rattle.std.proofs.Common.{rules, ◌≡◌, ◌≤◌, ◌<◌, ◌+◌, Some, None, IsTrue, length, ℕ, ◌-◌, ◌*◌, ◌/◌, ◌%◌, Bool, true, false, nat_eq, nat_lt, List, [], ◌∷◌, ◌++◌, slice_index_or, slice_set, bit_and, bit_or, Fits, w8, w32, w64, Bor, MutBor}
-use Rattle.vch_base.specs.declared.kind.Kind.TheVariants as kinds
-use Rattle.vch_model.specs.Lines.{is_task}
-use Rattle.vch_machine.specs.Next.{nth_call}
-use Rattle.vch_table.specs.Vouchers.{live_slots}
-use Rattle.vch_ports.specs.Names.{by_name, given_up}
-use Rattle.vch_state.specs.Plain.{frame_of, begun_of, names_of, with_names_of}
-use Rattle.vch_state.specs.Reached.{Reached, Follows, IsNext}
-use Rattle.vch_create.specs.Drops.{Drops, IsDropOf, IsLiveAt, drop_answer, leaving}
+use Rattle.std.proofs.Common.{◌∙◌, refl}
+use Rattle.vch_create.proofs.BeginEvent.{begin_range, begin_few, begun_range, begin_room}
+use Rattle.vch_create.proofs.DropEvent.{drop_follows}
+use Rattle.vch_create.proofs.WorkNext.{all_there, in_spaces}
 use Rattle.vch_create.proofs.give_up.begin_drop.Goals as goal
 
--- src/give_up.rt:109:9
 pub begin-number-requires-clause-task : goal.begin-number-requires-clause-task
-begin-number-requires-clause-task c = ?
+begin-number-requires-clause-task c = begin_range c.args.parts.now c.args.task c.requires.task c.requires.reached
 
--- src/give_up.rt:109:9
 pub begin-number-requires-clause-room : goal.begin-number-requires-clause-room
-begin-number-requires-clause-room c = ?
+begin-number-requires-clause-room c = begin_few c.args.parts.now c.args.task c.requires.task c.requires.reached
 
--- src/give_up.rt:110:17
 pub give_name_up-given-requires-clause-task : goal.give_name_up-given-requires-clause-task
-give_name_up-given-requires-clause-task c = ?
+give_name_up-given-requires-clause-task c = in_spaces c.args.parts.now c.args.task c.requires.task c.requires.reached
 
--- src/give_up.rt:110:17
 pub give_name_up-given-requires-clause-live : goal.give_name_up-given-requires-clause-live
-give_name_up-given-requires-clause-live c = ?
+give_name_up-given-requires-clause-live c = all_there c.args.parts.now c.args.task c.requires.task c.requires.reached c.args.name
 
--- src/give_up.rt:112:5
 pub put-requires : goal.put-requires
-put-requires c = ?
+put-requires c = record { task = begun_range c.args.parts.now c.args.task c.requires.task c.requires.reached c.begin-number.new.self c.begin-number.ensures.frames }
 
--- src/give_up.rt:113:5
 pub push-requires : goal.push-requires
-push-requires c = ?
+push-requires c = begin_room c.args.parts.now c.args.task c.requires.task c.requires.reached c.requires.next c.requires.idle _ c.requires.call
 
--- src/give_up.rt:99:1
 pub returns : goal.returns
-returns c = ?
+returns c =
+    drop_follows c.args.parts.now c.args.task c.requires.task c.requires.reached c.requires.next c.requires.idle c.args.name c.requires.call
+    c.put.new.self c.give_name_up-given.new.vouchers c.give_name_up-given.new.spaces c.push.new.self c.give_name_up-given.result
+    c.know.ensures c.know-2.ensures c.know-3.ensures
+    c.give_name_up-given.ensures.drops c.give_name_up-given.ensures.names c.give_name_up-given.ensures.next c.give_name_up-given.ensures.others c.give_name_up-given.ensures.count
+    (c.put.ensures ∙ rw (c.begin-number.ensures.frames, c.leaving.ensures) refl)
+    (c.push.ensures.entries ∙ rw (c.dropped.ensures, c.begin-number.ensures.number, c.drop_answer.ensures) refl) c.push.ensures.spare
