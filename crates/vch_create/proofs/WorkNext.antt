@@ -106,7 +106,7 @@ spaces_range [] fs = omega arith
 spaces_range (s ∷ ss) [] = omega arith
 spaces_range (s ∷ ss) (x ∷ fs) = let e : length (parts_in ss fs) ≤ length ss = spaces_range ss fs in omega arith
 
-frames_range : (ss : List Names) (fs : List Working) → length (parts_in ss fs) ≤ length fs
+pub frames_range : (ss : List Names) (fs : List Working) → length (parts_in ss fs) ≤ length fs
 frames_range [] fs = omega arith
 frames_range (s ∷ ss) [] = omega arith
 frames_range (s ∷ ss) (x ∷ fs) = let e : length (parts_in ss fs) ≤ length fs = frames_range ss fs in omega arith

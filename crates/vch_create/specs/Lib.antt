@@ -3,6 +3,7 @@ pub mod Formed
 pub mod Refusals
 pub mod Works
 pub mod Carried
+pub mod Makes
 pub mod Gives
 pub mod Drops
 pub mod Called

@@ -91,7 +91,7 @@ number_is n (Some l) (Some a) l2 e s = s.1
 abbrev at_place : Key → ℕ → Place
 at_place k h = record { key = k; handle = h }
 
-same_at : (k : Key) (h i : ℕ) → i ≢ h → same_place (at_place k h) (at_place k i) ≡ false
+pub same_at : (k : Key) (h i : ℕ) → i ≢ h → same_place (at_place k h) (at_place k i) ≡ false
 same_at k h i n = let e : same_key k k ≡ true = same_key_refl k in rw (e, test_other h i (λ q. n (sym q))) refl
 
 module _ (sc : Scenario) (k : Key) (c : Plain) (m : Machine) (t : ℕ) (positive : 0 < t) (inside : t - 1 < length c.tasks)

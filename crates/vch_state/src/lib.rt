@@ -69,13 +69,16 @@ mod tests;
 mod user_only;
 mod value;
 
+pub use forming::put_index;
 pub use frame::{Claiming, Frame, KeyIndex, KeyReceipt, Lets};
 pub use frames::{Frames, Working};
 pub use let_go::closed;
 pub use made::MadeNumbers;
 pub use parts::Parts;
+pub use record::next_place;
 pub use script::Script;
 pub use spaces::Spaces;
+pub use start::count_calls;
 pub use state::Core;
 pub use tally::Tally;
 pub use user_only::is_user_only;

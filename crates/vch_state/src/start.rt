@@ -37,8 +37,8 @@ fn fresh_frames(alloc: Global, count: usize) -> Result<Frames, NoMemory>
     Ok(made)
 }
 
-/// How many calls there are in all phases.
-fn count_calls(phases: &PhaseList) -> usize
+/// How many calls there are in all phases. The time is linear in the number of phases.
+pub fn count_calls(phases: &PhaseList) -> usize
     requires { line_count phases.now ≤ 1048576 }
     ensures { result ≡ line_count phases.now }
 {

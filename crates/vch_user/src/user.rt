@@ -1,4 +1,4 @@
-ghost use Rattle.std.specs.Prelude.{◌≡◌, [], None, Some, IsSome};
+ghost use Rattle.std.specs.Prelude.{◌≡◌, [], None, Some, IfOk, IsSome, length};
 ghost use Rattle.std.specs.List.{count_by};
 ghost use Rattle.vch_base.specs.Slots.{is_taken};
 ghost use Rattle.vch_base.specs.declared.value.Value.TheVariants as values;
@@ -47,6 +47,28 @@ impl UserManager {
             asks: 0,
             alloc,
         }
+    }
+
+    /// How many handles were ever used: each live value has one of them.
+    pub fn handles(&self) -> usize
+        ensures { result ≡ length self.now.slots }
+    {
+        self.places.handles()
+    }
+
+    /// A content as a value. The one error is want of memory.
+    pub fn value(&self, content: &[u8]) -> Result<Value, NoMemory>
+        ensures { IfOk result (λ made. made ≡ values.User content.now) }
+    {
+        let bytes = Bytes::of(self.alloc, content)?;
+        Ok(Value::User { bytes })
+    }
+
+    /// The manager answers the commands of user data, and knows every task. It does nothing.
+    pub fn know_rules(&self)
+        ensures { self.now.rules ≡ user_rules }
+    {
+        let _ = &self.places;
     }
 
     /// How many values are live. The time is linear in the number of handles that were ever used.

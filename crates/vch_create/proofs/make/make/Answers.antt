@@ -1,0 +1,22 @@
+use Rattle.std.proofs.Common.{refl}
+use Rattle.vch_create.proofs.MakeEvent.{roomier_next, roomier_forms, wanted_follows, make_after}
+use Rattle.vch_create.proofs.Roomier.{roomier_reached}
+use Rattle.vch_create.proofs.make.make.Goals as goal
+
+pub go_on-requires-clause-reached : goal.go_on-requires-clause-reached
+go_on-requires-clause-reached c = roomier_reached _ _ c.prepare.ensures.roomier c.requires.reached
+
+pub go_on-requires-clause-next : goal.go_on-requires-clause-next
+go_on-requires-clause-next c = roomier_next c.args.parts.now c.args.task c.requires.task c.requires.next c.requires.idle c.requires.reached c.prepare.new.parts c.prepare.ensures.roomier
+
+pub refuse-requires-clause-reached : goal.refuse-requires-clause-reached
+refuse-requires-clause-reached c = roomier_reached _ _ c.prepare.ensures.roomier c.requires.reached
+
+pub refuse-requires-clause-forms : goal.refuse-requires-clause-forms
+refuse-requires-clause-forms c = roomier_forms c.args.parts.now c.args.task c.requires.task c.requires.next c.requires.idle c.requires.reached c.prepare.new.parts c.prepare.ensures.roomier
+
+pub returns-in-Ok : goal.returns-in-Ok
+returns-in-Ok c = make_after c.args.parts.now c.prepare.new.parts c.go_on.new.parts c.args.task c.prepare.ensures.roomier c.go_on.ensures
+
+pub returns-in-Err : goal.returns-in-Err
+returns-in-Err c = wanted_follows c.args.parts.now c.args.task c.requires.task c.requires.next c.requires.idle c.requires.reached c.prepare.new.parts c.refuse.new.parts _ refl c.prepare.ensures.roomier c.refuse.ensures
