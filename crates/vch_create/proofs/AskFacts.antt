@@ -36,12 +36,11 @@ use Rattle.vch_legal.proofs.SeenNames.{LiveAll, AllLive}
 use Rattle.vch_legal.proofs.HeldLive.{forming_live, names_live}
 use Rattle.vch_state.specs.declared.frame.Frame.{Frame}
 use Rattle.vch_state.specs.declared.parts.Parts.{Parts}
-use Rattle.vch_state.specs.Plain.{Plain, SlotName, frame_of, begun_of, number_at}
+use Rattle.vch_state.specs.Plain.{Plain, SlotName, frame_of, begun_of, names_of, number_at}
 use Rattle.vch_state.specs.Shape.{Indices, Optional, Pairwise, IsIndexOf, IsMap, IsName, IsFrame, index_of, slots_of}
 use Rattle.vch_state.specs.Pictures.{picture_of, part_expects}
 use Rattle.vch_state.specs.Bounds.{Limited}
 use Rattle.vch_state.specs.Stands.{StandsFor, IsLiving}
-use Rattle.vch_state.specs.Lookups.{names_in}
 use Rattle.vch_state.specs.Reached.{plain_of, parts_in, IsNext, Reached, Stands, value_kind}
 use Rattle.vch_state.proofs.Glue.{there_of}
 use Rattle.vch_state.proofs.Maps.{at_key}
@@ -179,7 +178,7 @@ module _ (p : Parts) (t : ℕ) (task : is_task p.scenario t ≡ true) (next : Is
 
     previous_map : IsMap (plain_of p) V W
     previous_map = previous_same (plain_of p) (voucher_of p t) (tasked m t).names v w r.previous y.both.map
-        (names_same (plain_of p) (names_in p.spaces t) (tasked m t).names (task_names p t task m sm) r.previous)
+        (names_same (plain_of p) (names_of p.spaces t).names (tasked m t).names (task_names p t task m sm) r.previous)
 
     indexed : Optional (IsIndexOf (plain_of p) keys.User) (index_of keys.User V) (of_key keys.User W)
     indexed = at_key (plain_of p) keys.User V W previous_map

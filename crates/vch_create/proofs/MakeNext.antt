@@ -24,7 +24,6 @@ use Rattle.vch_state.specs.Shape.{Indices, IsFrame, IsMap}
 use Rattle.vch_state.specs.UserOnly.{AsksUserOnly, FormsUser, asks_other}
 use Rattle.vch_state.specs.Bounds.{Limited}
 use Rattle.vch_state.specs.Stands.{StandsFor}
-use Rattle.vch_state.specs.Lookups.{names_in}
 use Rattle.vch_state.specs.Nexts.{known_slot, record_kind, forming_kind, first_kind, task_kind}
 use Rattle.vch_state.specs.Reached.{plain_of, IsNext, Reached, Stands, value_kind}
 use Rattle.vch_state.proofs.Glue.{own_frame, twin_of}
@@ -64,7 +63,7 @@ pub record IsAsking (p : Parts) (t : ℕ) (f : Frame) (v : Indices) (bytes : Lis
   pub forms : f.forming ≡ Some v
   pub call : nth_call p.scenario t (begun_of p.frames t) ≡ Some (calls.Create bytes)
   pub first : first_of (drop f.at bytes) ≡ One r rest
-  pub asks : asks (known_slot (names_in p.spaces t)) r ≡ true
+  pub asks : asks (known_slot (names_of p.spaces t).names) r ≡ true
 
 abbrev ToAsking : Parts → ℕ → Type 0 → Type 0
 ToAsking p t A = (f : Frame) (v : Indices) (bytes : List ℕ) (r : Recipe) (rest : List ℕ) → IsAsking p t f v bytes r rest → A
@@ -74,17 +73,17 @@ same_kind a b e = cc
 
 module _ (p : Parts) (t : ℕ) (A : Type 0) (h : ToAsking p t A) where
   by_record : (f : Frame) (v : Indices) (bytes : List ℕ) (x : First) → frame_of p.frames t ≡ Some f → f.forming ≡ Some v → nth_call p.scenario t (begun_of p.frames t) ≡ Some (calls.Create bytes) → first_of (drop f.at bytes) ≡ x
-      → record_kind (names_in p.spaces t) x ≡ kinds.Make → A
-  by_record f v bytes (One r rest) own forms call first k = by (asks (known_slot (names_in p.spaces t)) r) refl k
+      → record_kind (names_of p.spaces t).names x ≡ kinds.Make → A
+  by_record f v bytes (One r rest) own forms call first k = by (asks (known_slot (names_of p.spaces t).names) r) refl k
     where
-      by : (b : Bool) → asks (known_slot (names_in p.spaces t)) r ≡ b → (if b then kinds.Make else kinds.Work) ≡ kinds.Make → A
+      by : (b : Bool) → asks (known_slot (names_of p.spaces t).names) r ≡ b → (if b then kinds.Make else kinds.Work) ≡ kinds.Make → A
       by true e q = h f v bytes r rest (record { own = own; forms = forms; call = call; first = first; asks = e })
       by false e q = absurd (cc)
   by_record f v bytes First.End own forms call first k = absurd (cc)
   by_record f v bytes (First.HeaderCut n) own forms call first k = absurd (cc)
   by_record f v bytes (First.ContentCut n i) own forms call first k = absurd (cc)
 
-  by_call : (f : Frame) (v : Indices) (o : Option Call) → frame_of p.frames t ≡ Some f → f.forming ≡ Some v → nth_call p.scenario t (begun_of p.frames t) ≡ o → forming_kind (names_in p.spaces t) o f.at (Some v) ≡ Some kinds.Make → A
+  by_call : (f : Frame) (v : Indices) (o : Option Call) → frame_of p.frames t ≡ Some f → f.forming ≡ Some v → nth_call p.scenario t (begun_of p.frames t) ≡ o → forming_kind (names_of p.spaces t).names o f.at (Some v) ≡ Some kinds.Make → A
   by_call f v (Some (calls.Create bytes)) own forms call k = by_record f v bytes (first_of (drop f.at bytes)) own forms call refl (same_kind _ _ k)
   by_call f v None own forms call k = absurd (cc)
   by_call f v (Some (calls.GiveUp name)) own forms call k = absurd (cc)
@@ -98,17 +97,17 @@ module _ (p : Parts) (t : ℕ) (A : Type 0) (h : ToAsking p t A) where
   by_call f v (Some calls.Assertions) own forms call k = absurd (cc)
   by_call f v (Some calls.Live) own forms call k = absurd (cc)
 
-  by_map : (f : Frame) (o : Option Indices) → frame_of p.frames t ≡ Some f → f.forming ≡ o → forming_kind (names_in p.spaces t) (nth_call p.scenario t (begun_of p.frames t)) f.at o ≡ Some kinds.Make → A
+  by_map : (f : Frame) (o : Option Indices) → frame_of p.frames t ≡ Some f → f.forming ≡ o → forming_kind (names_of p.spaces t).names (nth_call p.scenario t (begun_of p.frames t)) f.at o ≡ Some kinds.Make → A
   by_map f None own forms k = absurd (cc)
   by_map f (Some v) own forms k = by_call f v (nth_call p.scenario t (begun_of p.frames t)) own forms refl k
 
-  by_frame : (o : Option Frame) → frame_of p.frames t ≡ o → value_kind o ≡ None → task_kind p.scenario (names_in p.spaces t) t p.phase (begun_of p.frames t) o ≡ Some kinds.Make → A
+  by_frame : (o : Option Frame) → frame_of p.frames t ≡ o → value_kind o ≡ None → task_kind p.scenario (names_of p.spaces t).names t p.phase (begun_of p.frames t) o ≡ Some kinds.Make → A
   by_frame None own idle k = absurd (no_begin (nat_lt (begun_of p.frames t) (lines_until p.scenario (p.phase + 1) t)) k)
     where
       no_begin : (b : Bool) → (if b then Some kinds.Begin else None) ≡ Some kinds.Make → ⊥
       no_begin true e = cc
       no_begin false e = cc
-  by_frame (Some f) own idle k = by_map f f.forming own refl (sym (ap (λ o. first_kind o (forming_kind (names_in p.spaces t) (nth_call p.scenario t (begun_of p.frames t)) f.at f.forming)) idle) ∙ k)
+  by_frame (Some f) own idle k = by_map f f.forming own refl (sym (ap (λ o. first_kind o (forming_kind (names_of p.spaces t).names (nth_call p.scenario t (begun_of p.frames t)) f.at f.forming)) idle) ∙ k)
 
 pub next_in : (p : Parts) (t : ℕ) (kind : Option Kind) (m : Machine) → IsNext p t kind → Stands p m → next_kind p.scenario m t ≡ kind
 unfolding IsNext
@@ -151,4 +150,4 @@ module _ (p : Parts) (t : ℕ) (task : is_task p.scenario t ≡ true) (next : Is
       by : (bytes2 : List ℕ) → bytes2 ≡ bytes → (g : machine.Frame) → (tasked m t).frame ≡ Some g → IsFrame (plain_of p) (current p.scenario m t) f g → (w : Handles) → Forming (plain_of p) (current p.scenario m t) f g v w bytes2 → A
       by bytes2 e g twin x w y =
           let y2 : Forming (plain_of p) (current p.scenario m t) f g v w bytes = subst (λ b. Forming (plain_of p) (current p.scenario m t) f g v w b) e y in
-          h g w (record { twin = twin; both = y2; frames = x; key = user_asked (known_slot (names_in p.spaces t)) r z.asks (only_user g w y2 x [] (drop f.at bytes) refl r rest z.first) })
+          h g w (record { twin = twin; both = y2; frames = x; key = user_asked (known_slot (names_of p.spaces t).names) r z.asks (only_user g w y2 x [] (drop f.at bytes) refl r rest z.first) })
