@@ -1,5 +1,5 @@
 -- The receipts of the frames are those of the tasks.
-use Rattle.std.proofs.Common.{◌≡◌, ℕ, zero, suc, ◌+◌, ◌<◌, ◌≤◌, Bool, true, false, cond, List, [], ◌∷◌, ◌++◌, refl, arith, sym, ap, ◌∙◌, length, take, get_or, Option, Some, None}
+use Rattle.std.proofs.Common.{◌≡◌, ℕ, zero, suc, ◌+◌, ◌<◌, ◌≤◌, Bool, true, false, cond, List, [], ◌∷◌, ◌++◌, refl, arith, sym, ap, ◌∙◌, length, take, get_or, Option, Some, None, length-append}
 use Rattle.std.specs.List.{flat_map}
 use Rattle.vch_base.specs.declared.key.Key.{Key}
 use Rattle.vch_value.specs.declared.flight.Receipt.{Receipt}
@@ -10,7 +10,6 @@ use Rattle.vch_state.specs.declared.frames.Working.{Working}
 use Rattle.vch_state.specs.Plain.{Part, resting}
 use Rattle.vch_state.specs.Pictures.{receipts_of, receipt_of, part_expects, same_key}
 use Rattle.vch_state.specs.Reached.{parts_in}
-use Rattle.vch_state.proofs.Sums.{length_append}
 use Rattle.vch_create.specs.Makes.{receipts_in}
 
 one_at_most : (k : Key) (o : Option Frame) → length (receipts_of k o) ≤ 1
@@ -28,12 +27,12 @@ one_at_most k (Some f) = by_receipt f.receipt
 take_more : (k : Key) (xs : List Working) (i : ℕ) → i < length xs → length (receipts_in k (take (suc i) xs)) ≡ length (receipts_in k (take i xs)) + length (receipts_of k (get_or xs i resting).frame)
 take_more k [] i l = absurd (omega arith)
 take_more k (x ∷ xs) zero l =
-    let a : length (receipts_of k x.frame ++ []) ≡ length (receipts_of k x.frame) + 0 = length_append (receipts_of k x.frame) [] in
+    let a : length (receipts_of k x.frame ++ []) ≡ length (receipts_of k x.frame) + 0 = length-append (receipts_of k x.frame) [] in
     omega (arith, a)
 take_more k (x ∷ xs) (suc i) l =
     let a : length (receipts_in k (take (suc i) xs)) ≡ length (receipts_in k (take i xs)) + length (receipts_of k (get_or xs i resting).frame) = take_more k xs i (omega arith) in
-    let b : length (receipts_of k x.frame ++ receipts_in k (take (suc i) xs)) ≡ length (receipts_of k x.frame) + length (receipts_in k (take (suc i) xs)) = length_append (receipts_of k x.frame) (receipts_in k (take (suc i) xs)) in
-    let d : length (receipts_of k x.frame ++ receipts_in k (take i xs)) ≡ length (receipts_of k x.frame) + length (receipts_in k (take i xs)) = length_append (receipts_of k x.frame) (receipts_in k (take i xs)) in
+    let b : length (receipts_of k x.frame ++ receipts_in k (take (suc i) xs)) ≡ length (receipts_of k x.frame) + length (receipts_in k (take (suc i) xs)) = length-append (receipts_of k x.frame) (receipts_in k (take (suc i) xs)) in
+    let d : length (receipts_of k x.frame ++ receipts_in k (take i xs)) ≡ length (receipts_of k x.frame) + length (receipts_in k (take i xs)) = length-append (receipts_of k x.frame) (receipts_in k (take i xs)) in
     omega (arith, a, b, d)
 
 -- what is counted with the next frame
@@ -57,7 +56,7 @@ parts_receipts k (s ∷ ss) (x ∷ fs) = ap (λ rs. receipts_of k x.frame ++ rs)
 pub expected_few : (k : Key) (xs : List Part) → length (flat_map (part_expects k) xs) ≤ length xs
 expected_few k [] = omega arith
 expected_few k (x ∷ xs) =
-    let a : length (receipts_of k x.frame ++ flat_map (part_expects k) xs) ≡ length (receipts_of k x.frame) + length (flat_map (part_expects k) xs) = length_append (receipts_of k x.frame) (flat_map (part_expects k) xs) in
+    let a : length (receipts_of k x.frame ++ flat_map (part_expects k) xs) ≡ length (receipts_of k x.frame) + length (flat_map (part_expects k) xs) = length-append (receipts_of k x.frame) (flat_map (part_expects k) xs) in
     let b : length (receipts_of k x.frame) ≤ 1 = one_at_most k x.frame in
     let d : length (flat_map (part_expects k) xs) ≤ length xs = expected_few k xs in
     omega (arith, a, b, d)

@@ -21,7 +21,8 @@ use Rattle.vch_state.specs.declared.frame.Frame.{Frame}
 use Rattle.vch_state.specs.declared.parts.Parts.{Parts}
 use Rattle.vch_state.specs.Plain.{Plain, SlotName, frame_of, begun_of, working_of, names_of}
 use Rattle.vch_state.specs.Shape.{Indices, IsFrame, IsMap}
-use Rattle.vch_state.specs.UserOnly.{AsksUserOnly, FormsUser, asks_other}
+use Rattle.vch_state.specs.UserOnly.{FormsUser}
+use Rattle.vch_model.specs.UserOnly.{AsksUserOnly, asks_other}
 use Rattle.vch_state.specs.Bounds.{Limited}
 use Rattle.vch_state.specs.Stands.{StandsFor}
 use Rattle.vch_state.specs.Nexts.{known_slot, record_kind, forming_kind, first_kind, task_kind}
