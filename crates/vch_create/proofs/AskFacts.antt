@@ -1,59 +1,47 @@
 -- What the manager is asked by a Make: what the calls need, and that it is what the machine asks.
-use Rattle.std.proofs.Common.{◌≡◌, ℕ, zero, suc, ◌+◌, ◌-◌, ◌<◌, ◌≤◌, ◌==◌, Bool, true, false, cond, List, [], ◌∷◌, ◌++◌, refl, arith, sym, ap, ◌∙◌, length, take, drop, subst, Option, Some, None}
-use Rattle.std.specs.Prelude.{is_some, IsSome, IfSome, ◌^◌, Result, Ok, Err, ℤ, if◌then◌else◌}
-use Rattle.std.specs.List.{flat_map}
-use Rattle.vch_base.specs.declared.key.Key.{Key}
+use Rattle.std.proofs.Common.{◌≡◌, ℕ, suc, ◌+◌, ◌<◌, ◌≤◌, ◌==◌, Bool, true, false, cond, List, [], ◌∷◌, refl, arith, sym, ap, ◌∙◌, length, take, subst, Option, Some, None}
+use Rattle.std.specs.Prelude.{is_some, IsSome, IfSome, ◌^◌, Result, ℤ, if◌then◌else◌}
 use Rattle.vch_base.specs.declared.key.Key.TheVariants as keys
 use Rattle.vch_base.specs.declared.kind.Kind.TheVariants as kinds
 use Rattle.vch_base.specs.declared.value.Value.{Value}
 use Rattle.vch_base.specs.declared.places.Live.{Live}
-use Rattle.vch_base.specs.declared.manager.GetFault.{GetFault}
 use Rattle.vch_base.specs.Managers.{Kept, MadeBelow, Knows, answer, user_rules, live_at, made_of, made_at, count}
 use Rattle.vch_base.specs.Managers as managers
 use Rattle.vch_entry.specs.declared.table.Entry.{Entry}
 use Rattle.vch_entry.specs.Entries as entry
 use Rattle.vch_entry.specs.Entries.{Entries, entry_at, handle_at}
-use Rattle.vch_recipe.specs.Recipes.{One, first_of}
 use Rattle.vch_recipe.specs.declared.recipe.Recipe.{Recipe}
-use Rattle.vch_value.specs.declared.flight.Made.{Made}
 use Rattle.vch_value.specs.declared.flight.Receipt.{Receipt}
-use Rattle.vch_value.specs.Picture as picture
-use Rattle.vch_value.specs.Picture.{Picture, Claimed, entry_of, flags_at, claims_at, agreed_in, got_picture, IsCounted}
-use Rattle.vch_value.specs.Calls as value_calls
-use Rattle.vch_value.specs.Calls.{previous_handle, got_of}
+use Rattle.vch_value.specs.Picture.{Picture, Claimed, entry_of, flags_at, claims_at, agreed_in, IsCounted}
+use Rattle.vch_value.specs.Calls.{previous_handle}
 use Rattle.vch_model.specs.Eval.{answer_to}
 use Rattle.vch_model.specs.Lines.{is_task}
 use Rattle.vch_model.specs.declared.call.Call.{Call}
 use Rattle.vch_model.specs.declared.call.Call.TheVariants as calls
-use Rattle.vch_model.specs.declared.lists.Scenario.{Scenario}
 use Rattle.vch_machine.specs.State as machine
 use Rattle.vch_machine.specs.State.{of_key, Handles, Living, Named, Machine, tasked, living_at, value_at}
-use Rattle.vch_machine.specs.Making.{Asked, asked_by, asked_record, previous_of, or_map}
+use Rattle.vch_machine.specs.Making.{asked_by, previous_of, or_map}
 use Rattle.vch_machine.specs.Naming.{handles_of}
-use Rattle.vch_machine.specs.Next.{current, nth_call}
 use Rattle.vch_legal.proofs.Forming.{LiveAt}
 use Rattle.vch_legal.proofs.SeenNames.{LiveAll, AllLive}
 use Rattle.vch_legal.proofs.HeldLive.{forming_live, names_live}
 use Rattle.vch_state.specs.declared.frame.Frame.{Frame}
 use Rattle.vch_state.specs.declared.parts.Parts.{Parts}
-use Rattle.vch_state.specs.Plain.{Plain, SlotName, frame_of, begun_of, names_of, number_at}
-use Rattle.vch_state.specs.Shape.{Indices, Optional, Pairwise, IsIndexOf, IsMap, IsName, IsFrame, index_of, slots_of}
-use Rattle.vch_state.specs.Pictures.{picture_of, part_expects}
+use Rattle.vch_state.specs.Plain.{Plain, frame_of, names_of, number_at}
+use Rattle.vch_state.specs.Shape.{Indices, Optional, IsIndexOf, IsMap, index_of}
+use Rattle.vch_state.specs.Pictures.{picture_of}
 use Rattle.vch_state.specs.Bounds.{Limited}
 use Rattle.vch_state.specs.Stands.{StandsFor, IsLiving}
-use Rattle.vch_state.specs.Reached.{plain_of, parts_in, IsNext, Reached, Stands, value_kind}
+use Rattle.vch_state.specs.Reached.{plain_of, parts_in, IsNext, Stands, value_kind}
 use Rattle.vch_state.proofs.Glue.{there_of}
 use Rattle.vch_state.proofs.Maps.{at_key}
-use Rattle.vch_state.proofs.NextKinds.{task_inside}
-use Rattle.vch_state.proofs.Records.{record_inside}
 use Rattle.vch_state.proofs.Spending.{refers_bound}
-use Rattle.vch_create.specs.declared.question.Question.{Question}
-use Rattle.vch_create.specs.Works.{voucher_in, voucher_of}
+use Rattle.vch_create.specs.Works.{voucher_of}
 use Rattle.vch_create.specs.Makes as makes
 use Rattle.vch_create.specs.Makes.{IsQuestion, IsAsked, Answers, receipts_in, previous_in}
 use Rattle.vch_create.proofs.Flights.{parts_receipts, expected_few}
-use Rattle.vch_create.proofs.MakeNext.{IsAsking, asking, Makes, makes_seen}
-use Rattle.vch_create.proofs.WorkNext.{reached_state, state_of, names_same, task_names}
+use Rattle.vch_create.proofs.MakeNext.{IsAsking, Makes}
+use Rattle.vch_create.proofs.WorkNext.{state_of, names_same, task_names}
 
 -- The value that a record begins with.
 

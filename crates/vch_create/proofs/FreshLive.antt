@@ -1,8 +1,7 @@
 -- A value that was live, and a fresh one: what the machine's live values and handles are then, beside the manager's.
-use Rattle.std.proofs.Common.{◌≡◌, ◌≢◌, ℕ, zero, suc, ◌+◌, ◌-◌, ◌<◌, ◌≤◌, ◌==◌, nat_lt, ◌&&◌, Bool, true, false, cond, List, [], ◌∷◌, ◌++◌, refl, arith, sym, ap, ◌∙◌, length, map, reverse, get_or, subst, Option, Some, None, inl, inr}
-use Rattle.std.specs.Prelude.{Result, Ok, Err, ℤ, pos, if◌then◌else◌}
+use Rattle.std.proofs.Common.{◌≡◌, ◌≢◌, ℕ, ◌+◌, ◌-◌, ◌<◌, ◌≤◌, ◌==◌, nat_lt, Bool, true, false, List, [], ◌∷◌, ◌++◌, refl, arith, sym, ap, ◌∙◌, length, map, get_or, subst, Option, Some, None, inl, inr}
+use Rattle.std.specs.Prelude.{Result, Ok, Err, ℤ}
 use Rattle.std.proofs.Math.ListN.{set}
-use Rattle.std.specs.List.{count_by}
 use Rattle.std.proofs.lemmas.Grind.{common_steps}
 use Rattle.std.proofs.lemmas.Bool.{cases_eq}
 use Rattle.std.proofs.lemmas.List.{get_or-set_same, get_or-set_other, map-set}
@@ -13,14 +12,12 @@ use Rattle.vch_base.specs.declared.value.Value.TheVariants as values
 use Rattle.vch_base.specs.declared.places.Live.{Live}
 use Rattle.vch_base.specs.Managers as managers
 use Rattle.vch_base.specs.Managers.{Kept, IsAbsent, live_at, more_made, new_live, next_handle, slots_with, free_after, bare, own_answer}
-use Rattle.vch_value.proofs.Lists.{test_other}
 use Rattle.vch_model.specs.Eval.{answer_to}
 use Rattle.vch_model.specs.declared.lists.Scenario.{Scenario}
 use Rattle.vch_machine.specs.State as machine
 use Rattle.vch_machine.specs.State.{of_key, Living, Pool, Machine, Tasked, tasked, living_at, handle_of, value_at, same_place}
-use Rattle.vch_machine.specs.Making.{fresh_handle, fewer_free, minted, race_claim, on_task, on_claims, given_receipt}
-use Rattle.vch_machine.specs.Frames.{with_frame}
-use Rattle.vch_legal.specs.Facts.{Fits, EachOnce, bit, times}
+use Rattle.vch_machine.specs.Making.{fresh_handle, fewer_free, race_claim, on_task, on_claims, given_receipt}
+use Rattle.vch_legal.specs.Facts.{Fits, bit, times}
 use Rattle.vch_legal.proofs.MakeSpots.{append_here, append_other, fresh_dead}
 use Rattle.vch_legal.proofs.MakeSteps.{found_value}
 use Rattle.vch_legal.proofs.SeenTasks.{claims_task}
@@ -28,7 +25,6 @@ use Rattle.vch_legal.proofs.SeenValues.{at_most_once}
 use Rattle.vch_state.specs.Plain.{number_at}
 use Rattle.vch_state.specs.Stands.{IsLiving}
 use Rattle.vch_state.proofs.Asks.{same_at}
-use Rattle.vch_state.proofs.Keys.{same_key_refl}
 use Rattle.vch_state.proofs.Replaced.{framed}
 use Rattle.vch_create.proofs.MadeLive.{IsFree, used_after, live_new, live_old}
 

@@ -1,10 +1,10 @@
 -- From what the code of a lost key does to the machine's.
-use Rattle.std.proofs.Common.{◌≡◌, ℕ, ◌+◌, ◌-◌, ◌<◌, ◌≤◌, true, false, List, [], ◌∷◌, ◌++◌, refl, arith, sym, ap, ◌∙◌, length, drop, get_or, subst, Option, Some, None}
+use Rattle.std.proofs.Common.{◌≡◌, ℕ, ◌+◌, ◌-◌, ◌<◌, ◌≤◌, true, false, List, [], ◌∷◌, ◌++◌, refl, sym, ap, ◌∙◌, length, drop, get_or, subst, Some, None}
 use Rattle.std.specs.Prelude.{IfSome, Ok}
 use Rattle.std.proofs.Math.ListN.{set}
 use Rattle.vch_base.specs.declared.key.Key.TheVariants as keys
 use Rattle.vch_base.specs.declared.kind.Kind.TheVariants as kinds
-use Rattle.vch_recipe.specs.Recipes.{One, first_of}
+use Rattle.vch_recipe.specs.Recipes.{first_of}
 use Rattle.vch_recipe.specs.declared.recipe.Recipe.{Recipe}
 use Rattle.vch_model.specs.Lines.{is_task}
 use Rattle.vch_model.specs.declared.call.Call.{Call}
@@ -29,8 +29,8 @@ use Rattle.vch_state.proofs.Glue.{put_taken, own_frame, in_parts, in_frames}
 use Rattle.vch_state.proofs.Maps.{keyed_few}
 use Rattle.vch_state.proofs.Refers.{taken_frame}
 use Rattle.vch_create.specs.Makes.{IsLoss}
-use Rattle.vch_create.proofs.Loses.{lost_machine, then_parts, then_machine, lost_stands}
-use Rattle.vch_create.proofs.MakeCalls.{same_frame, same_bytes, record_there}
+use Rattle.vch_create.proofs.Loses.{then_parts, then_machine, lost_stands}
+use Rattle.vch_create.proofs.MakeCalls.{same_frame, record_there}
 use Rattle.vch_create.proofs.MakeNext.{IsAsking, asking, Makes, makes_seen}
 use Rattle.vch_create.proofs.Quiet.{forming_frame, forming_machine}
 use Rattle.vch_create.proofs.WorkNext.{reached_state, state_of}

@@ -1,14 +1,12 @@
 -- Live values where one is handed out, again or for the first time.
-use Rattle.std.proofs.Common.{◌≡◌, ◌≢◌, ℕ, zero, suc, ◌+◌, ◌-◌, ◌<◌, ◌≤◌, ◌==◌, nat_lt, Bool, true, false, cond, List, [], ◌∷◌, ◌++◌, refl, arith, sym, ap, ◌∙◌, length, get_or, subst, Option, Some, None, inl, inr}
+use Rattle.std.proofs.Common.{◌≡◌, ◌≢◌, ℕ, zero, suc, ◌+◌, ◌<◌, cond, List, [], ◌∷◌, ◌++◌, refl, arith, ap, length, Option, Some, None}
 use Rattle.std.proofs.Math.ListN.{set}
 use Rattle.std.specs.List.{count_by}
-use Rattle.std.proofs.lemmas.Grind.{common_steps}
-use Rattle.std.proofs.lemmas.Bool.{cases_eq}
 use Rattle.std.proofs.lemmas.List.{get_or-set_same, get_or-set_other, length-set}
 use Rattle.std.proofs.lemmas.List.Sums.{sum_by-cons}
 use Rattle.vch_base.specs.Slots.{is_taken}
 use Rattle.vch_base.specs.declared.places.Live.{Live}
-use Rattle.vch_base.specs.Managers.{live_at, more_made, next_handle, slots_with, free_after}
+use Rattle.vch_base.specs.Managers.{live_at, more_made, next_handle, slots_with}
 
 abbrev one : Option Live → ℕ
 one o = cond (is_taken o) 1 0

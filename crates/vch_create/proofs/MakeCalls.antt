@@ -1,5 +1,5 @@
 -- What the calls of a Make need of the parts.
-use Rattle.std.proofs.Common.{◌≡◌, ℕ, zero, suc, ◌+◌, ◌-◌, ◌<◌, ◌≤◌, Bool, true, false, List, [], ◌∷◌, refl, arith, sym, ap, ◌∙◌, length, take, drop, subst, Option, Some, None, IsTrue}
+use Rattle.std.proofs.Common.{◌≡◌, ℕ, ◌+◌, ◌<◌, ◌≤◌, Bool, true, false, List, [], ◌∷◌, refl, arith, sym, ap, ◌∙◌, length, take, drop, subst, Option, Some, None}
 use Rattle.std.specs.Prelude.{IsSome, IfSome, ◌^◌, is_some, Result, Ok, ℤ}
 use Rattle.vch_base.specs.declared.key.Key.TheVariants as keys
 use Rattle.vch_base.specs.declared.kind.Kind.TheVariants as kinds
@@ -38,15 +38,12 @@ use Rattle.vch_machine.specs.Next.{nth_call}
 use Rattle.vch_state.specs.declared.frame.Frame.{Frame}
 use Rattle.vch_state.specs.declared.parts.Parts.{Parts}
 use Rattle.vch_state.specs.Plain.{frame_of, begun_of}
-use Rattle.vch_state.specs.Shape.{Indices, index_of}
 use Rattle.vch_state.specs.Reached.{plain_of, parts_in, IsNext, Reached, Stands, value_kind}
-use Rattle.vch_state.proofs.NextKinds.{task_inside}
 use Rattle.vch_state.proofs.Records.{record_inside}
 use Rattle.vch_create.specs.declared.question.Question.{Question}
 use Rattle.vch_create.specs.Makes.{Answers, HasRoom, IsAsked, IsMadeEntry, IsQuestion, receipts_in}
-use Rattle.vch_create.proofs.MakeNext.{IsAsking, asking, makes_seen}
+use Rattle.vch_create.proofs.MakeNext.{asking, makes_seen}
 use Rattle.vch_create.proofs.AskFacts.{flights_are, flights_few, handles_few, made_few, previous_there, previous_is_live, long_is, reply, reply_is, asked_is}
-use Rattle.vch_create.proofs.Own.{own_range}
 use Rattle.vch_create.proofs.WorkNext.{reached_state, state_of, frames_range}
 
 pub same_frame : (o : Option Frame) (a b : Frame) → o ≡ Some a → o ≡ Some b → a ≡ b

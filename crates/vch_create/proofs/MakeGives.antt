@@ -1,36 +1,30 @@
 -- What an answer says of the machine's reply, and what the machine's event is then.
-use Rattle.std.proofs.Common.{◌≡◌, ℕ, ◌+◌, ◌-◌, ◌<◌, ◌≤◌, ◌==◌, Bool, true, false, List, [], ◌∷◌, ◌++◌, refl, arith, sym, ap, ◌∙◌, length, drop, subst, Option, Some, None}
-use Rattle.std.specs.Prelude.{Result, Ok, Err, ℤ, pos, is_some, if◌then◌else◌}
+use Rattle.std.proofs.Common.{◌≡◌, ℕ, Bool, true, false, List, refl, sym, ap, ◌∙◌, Option, Some, None}
+use Rattle.std.specs.Prelude.{Result, Ok, Err, ℤ, pos}
 use Rattle.vch_base.specs.declared.fault.Code.{Code}
-use Rattle.vch_base.specs.declared.key.Key.{Key}
 use Rattle.vch_base.specs.declared.key.Key.TheVariants as keys
 use Rattle.vch_base.specs.declared.kind.Kind.TheVariants as kinds
 use Rattle.vch_base.specs.declared.value.Value.{Value}
-use Rattle.vch_base.specs.declared.value.Value.TheVariants as values
-use Rattle.vch_base.specs.declared.manager.GetFault.{GetFault}
 use Rattle.vch_base.specs.declared.manager.GetFault.TheVariants as fault
 use Rattle.vch_base.specs.declared.manager.Got.TheVariants as got
-use Rattle.vch_base.specs.Managers.{Kept, Handed, bare, own_answer}
-use Rattle.vch_recipe.specs.Recipes.{One, first_of}
+use Rattle.vch_base.specs.Managers.{Kept, Handed}
 use Rattle.vch_recipe.specs.declared.recipe.Recipe.{Recipe}
-use Rattle.vch_value.specs.declared.flight.Made.{Made}
 use Rattle.vch_value.specs.declared.flight.Made.TheVariants as made
 use Rattle.vch_value.specs.declared.flight.Receipt.{Receipt}
 use Rattle.vch_value.specs.Calls as value_calls
 use Rattle.vch_model.specs.Lines.{is_task}
-use Rattle.vch_model.specs.declared.call.Call.{Call}
 use Rattle.vch_model.specs.declared.call.Call.TheVariants as calls
 use Rattle.vch_machine.specs.State as machine
 use Rattle.vch_machine.specs.State.{of_key, Handles, Machine, tasked}
 use Rattle.vch_machine.specs.Frames.{refuse}
-use Rattle.vch_machine.specs.Making.{make_asked, make_done, asked_by}
-use Rattle.vch_machine.specs.Next.{current, next_kind}
+use Rattle.vch_machine.specs.Making.{make_asked, make_done}
+use Rattle.vch_machine.specs.Next.{next_kind}
 use Rattle.vch_machine.specs.Events.{event}
 use Rattle.vch_state.specs.declared.frame.Frame.{Frame}
 use Rattle.vch_state.specs.declared.parts.Parts.{Parts}
 use Rattle.vch_state.specs.Plain.{frame_of}
 use Rattle.vch_state.specs.Shape.{Indices}
-use Rattle.vch_state.specs.Reached.{plain_of, IsNext, Reached, Stands, value_kind}
+use Rattle.vch_state.specs.Reached.{IsNext, Stands, value_kind}
 use Rattle.vch_state.proofs.Glue.{event_is}
 use Rattle.vch_create.specs.Makes.{IsAsked}
 use Rattle.vch_create.proofs.MakeNext.{IsAsking, Makes, next_in}

@@ -1,5 +1,5 @@
 -- Where a Make is next: the frame forms a voucher, and a record of user data's manager stands at its place.
-use Rattle.std.proofs.Common.{◌≡◌, ℕ, ◌+◌, ◌-◌, ◌<◌, ◌≤◌, ◌==◌, nat_lt, ◌&&◌, ◌||◌, Bool, true, false, cond, List, [], ◌∷◌, refl, arith, sym, ap, ◌∙◌, length, drop, subst, Option, Some, None, IsTrue}
+use Rattle.std.proofs.Common.{◌≡◌, ℕ, ◌+◌, ◌==◌, nat_lt, ◌&&◌, ◌||◌, Bool, true, false, List, [], ◌∷◌, refl, arith, sym, ap, ◌∙◌, length, drop, subst, Option, Some, None}
 use Rattle.std.specs.Prelude.{is_some, if◌then◌else◌}
 use Rattle.std.proofs.lemmas.Grind.{common_steps}
 use Rattle.vch_base.specs.Keys.{key_of}
@@ -13,24 +13,22 @@ use Rattle.vch_model.specs.Voucher.{Voucher}
 use Rattle.vch_model.specs.Lines.{is_task, lines_until}
 use Rattle.vch_model.specs.declared.call.Call.{Call}
 use Rattle.vch_model.specs.declared.call.Call.TheVariants as calls
-use Rattle.vch_model.specs.declared.lists.Scenario.{Scenario}
 use Rattle.vch_machine.specs.State as machine
 use Rattle.vch_machine.specs.State.{Handles, Machine, tasked}
 use Rattle.vch_machine.specs.Next.{current, nth_call, next_kind}
 use Rattle.vch_state.specs.declared.frame.Frame.{Frame}
 use Rattle.vch_state.specs.declared.parts.Parts.{Parts}
-use Rattle.vch_state.specs.Plain.{Plain, SlotName, frame_of, begun_of, working_of, names_of}
-use Rattle.vch_state.specs.Shape.{Indices, IsFrame, IsMap}
+use Rattle.vch_state.specs.Plain.{frame_of, begun_of, working_of, names_of}
+use Rattle.vch_state.specs.Shape.{Indices, IsFrame}
 use Rattle.vch_state.specs.UserOnly.{FormsUser}
 use Rattle.vch_model.specs.UserOnly.{AsksUserOnly, asks_other}
-use Rattle.vch_state.specs.Bounds.{Limited}
 use Rattle.vch_state.specs.Stands.{StandsFor}
 use Rattle.vch_state.specs.Nexts.{known_slot, record_kind, forming_kind, first_kind, task_kind}
 use Rattle.vch_state.specs.Reached.{plain_of, IsNext, Reached, Stands, value_kind}
 use Rattle.vch_state.proofs.Glue.{own_frame, twin_of}
 use Rattle.vch_state.proofs.NextKinds.{next_agrees, is_next}
 use Rattle.vch_state.proofs.RefersEvent.{own_call}
-use Rattle.vch_create.proofs.Quiet.{Forming, forming_of, quiet}
+use Rattle.vch_create.proofs.Quiet.{Forming, forming_of}
 use Rattle.vch_create.proofs.WorkNext.{reached_state, state_of}
 
 -- A record that asks a manager, and no other manager than user data's, is of user data.

@@ -1,20 +1,18 @@
 -- A Make that gives a receipt, of a value that was live or of a fresh one.
-use Rattle.std.proofs.Common.{◌≡◌, ◌≢◌, ℕ, zero, suc, ◌+◌, ◌-◌, ◌*◌, ◌<◌, ◌≤◌, ◌==◌, Bool, true, false, cond, List, [], ◌∷◌, ◌++◌, refl, arith, sym, ap, ◌∙◌, length, map, reverse, drop, get_or, subst, Option, Some, None, IsTrue}
-use Rattle.std.specs.Prelude.{Result, Ok, Err, ℤ, pos, IfSome, is_some}
+use Rattle.std.proofs.Common.{◌≡◌, ℕ, suc, ◌+◌, ◌-◌, ◌<◌, ◌≤◌, true, false, List, [], ◌∷◌, ◌++◌, refl, arith, sym, ap, ◌∙◌, length, reverse, get_or, subst, Option, Some, None}
+use Rattle.std.specs.Prelude.{Result, Ok, ℤ, IfSome}
 use Rattle.std.proofs.Math.ListN.{set}
 use Rattle.std.specs.List.{count_by}
 use Rattle.std.proofs.lemmas.Grind.{common_steps}
 use Rattle.std.proofs.lemmas.List.{length-set, length-reverse}
 use Rattle.std.proofs.lemmas.List.Sums.{count_by-le-length}
 use Rattle.vch_base.specs.Slots.{is_taken}
-use Rattle.vch_base.specs.declared.key.Key.{Key}
 use Rattle.vch_base.specs.declared.key.Key.TheVariants as keys
 use Rattle.vch_base.specs.declared.kind.Kind.TheVariants as kinds
 use Rattle.vch_base.specs.declared.value.Value.{Value}
 use Rattle.vch_base.specs.declared.value.Value.TheVariants as values
-use Rattle.vch_base.specs.Managers.{Kept, live_at, value_at, more_made, new_live, next_handle, slots_with, free_after}
+use Rattle.vch_base.specs.Managers.{Kept, live_at, more_made, new_live, next_handle, slots_with, free_after}
 use Rattle.vch_entry.specs.Entries.{Entries}
-use Rattle.vch_recipe.specs.Recipes.{First, One, first_of}
 use Rattle.vch_recipe.specs.declared.recipe.Recipe.{Recipe}
 use Rattle.vch_value.specs.declared.flight.Made.TheVariants as made
 use Rattle.vch_value.specs.declared.flight.Receipt.{Receipt}
@@ -22,28 +20,25 @@ use Rattle.vch_value.specs.Picture as picture
 use Rattle.vch_value.specs.Picture.{Picture, made_picture}
 use Rattle.vch_model.specs.Lines.{is_task, phases_in, lines_of}
 use Rattle.vch_model.specs.Rows as rows
-use Rattle.vch_model.specs.declared.call.Call.{Call}
 use Rattle.vch_model.specs.declared.call.Call.TheVariants as calls
 use Rattle.vch_model.specs.declared.entry.Entry.{Entry}
 use Rattle.vch_model.specs.declared.entry.Entry.TheVariants as entries
 use Rattle.vch_model.specs.declared.lists.Scenario.{Scenario}
 use Rattle.vch_machine.specs.State as machine
 use Rattle.vch_machine.specs.State.{Keyed, of_key, with_key, Handles, Machine, Tasked, tasked, idle, handle_of, living_at}
-use Rattle.vch_machine.specs.Making.{Asked, made_at, minted, fresh_handle, fewer_free, given_receipt, race_claim, on_claims}
-use Rattle.vch_machine.specs.Next.{current, nth_call}
+use Rattle.vch_machine.specs.Making.{Asked, made_at, minted, fresh_handle, given_receipt, race_claim, on_claims}
 use Rattle.vch_machine.specs.Events.{event}
 use Rattle.vch_legal.specs.Facts.{Fits}
 use Rattle.vch_legal.proofs.Keeps.{event_keeps}
 use Rattle.vch_legal.proofs.MakeSpots.{fresh_dead}
 use Rattle.vch_state.specs.declared.frame.Frame.{Frame}
-use Rattle.vch_state.specs.declared.frame.KeyReceipt.{KeyReceipt}
 use Rattle.vch_state.specs.declared.frames.Working.{Working}
 use Rattle.vch_state.specs.declared.parts.Parts.{Parts}
-use Rattle.vch_state.specs.Plain.{Plain, with_frame, idle_part, part_of, frame_of, begun_of, with_frame_of, number_at}
+use Rattle.vch_state.specs.Plain.{with_frame, idle_part, part_of, frame_of, with_frame_of, number_at}
 use Rattle.vch_state.specs.Shape.{Indices}
 use Rattle.vch_state.specs.UserOnly.{TakesUser, IsUserRecord}
 use Rattle.vch_state.specs.Pictures.{picture_of}
-use Rattle.vch_state.specs.Bounds.{Limited, Spent, in_all, unanswered_in, begun_in, open_in, open_of, calls_of, sum_tasks}
+use Rattle.vch_state.specs.Bounds.{Spent, in_all, unanswered_in, begun_in, open_in, calls_of, sum_tasks}
 use Rattle.vch_state.specs.Stands.{StandsFor, IsLiving}
 use Rattle.vch_state.specs.Reached.{plain_of, parts_in, IsState, IsEventBy, IsNext, MayFollow, Reached, Stands, value_kind}
 use Rattle.vch_state.proofs.Glue.{put_taken, own_frame, in_parts, in_frames}
@@ -53,14 +48,14 @@ use Rattle.vch_state.proofs.Sums.{sum_bounded}
 use Rattle.vch_create.specs.Makes.{Answers, HasRoom, IsAsked, IsMadeEntry}
 use Rattle.vch_create.proofs.AskFacts.{reply, asked_is, W}
 use Rattle.vch_create.proofs.FreshLive.{found_handle, absent_handle, fresh_is, free_is, used_is, used_few, free_handle, living_again, living_new, stored, absent_previous, tasks_given}
-use Rattle.vch_create.proofs.MadeLive.{IsFree, count_again, live_again, count_new, length_new, used_after}
+use Rattle.vch_create.proofs.MadeLive.{IsFree, count_again, live_again, count_new, length_new}
 use Rattle.vch_create.proofs.MakeCalls.{same_frame}
 use Rattle.vch_create.proofs.MakeGives as gives
 use Rattle.vch_create.proofs.MakeGives.{IsValue, value_is}
 use Rattle.vch_create.proofs.MakeNext.{IsAsking, asking, Makes, makes_seen}
 use Rattle.vch_create.proofs.Quiet.{forming_frame, forming_machine}
 use Rattle.vch_create.proofs.Receives as receives
-use Rattle.vch_create.proofs.WorkNext.{reached_state, state_of}
+use Rattle.vch_create.proofs.WorkNext.{state_of}
 
 one_asked : (a b : Asked) → Some a ≡ Some b → a ≡ b
 one_asked a b e = cc

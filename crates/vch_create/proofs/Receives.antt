@@ -1,18 +1,17 @@
 -- A frame gets a receipt, of a value that was live or of a fresh one: what the parts stand for then.
-use Rattle.std.proofs.Common.{◌≡◌, ◌≢◌, ℕ, zero, suc, ◌+◌, ◌-◌, ◌*◌, ◌<◌, ◌≤◌, ◌==◌, Bool, true, false, cond, List, [], ◌∷◌, ◌++◌, refl, arith, sym, ap, ◌∙◌, length, map, reverse, subst, Option, Some, None}
+use Rattle.std.proofs.Common.{◌≡◌, ℕ, ◌+◌, ◌-◌, ◌<◌, ◌≤◌, ◌==◌, Bool, true, false, cond, List, [], ◌∷◌, ◌++◌, refl, arith, sym, ap, ◌∙◌, length, map, reverse, subst, Some}
 use Rattle.std.proofs.Math.ListN.{set}
-use Rattle.std.specs.List.{flat_map, count_by}
+use Rattle.std.specs.List.{count_by}
 use Rattle.vch_base.specs.declared.key.Key.{Key}
 use Rattle.vch_base.specs.declared.key.Key.TheVariants as keys
 use Rattle.vch_base.specs.Slots.{is_taken}
 use Rattle.vch_base.specs.Managers.{Kept, live_at, count}
-use Rattle.vch_entry.specs.Entries.{Entries, entry_at, handle_at, made_of}
+use Rattle.vch_entry.specs.Entries.{Entries, handle_at}
 use Rattle.vch_value.specs.declared.flight.Receipt.{Receipt}
 use Rattle.vch_value.specs.Picture as picture
 use Rattle.vch_value.specs.Picture.{Picture, Alike, AllAre, claims_at, flags_at, race, made_picture, default_of}
 use Rattle.vch_value.proofs.Rows.{stands_alike}
 use Rattle.vch_model.specs.Lines.{phases_in}
-use Rattle.vch_model.specs.declared.call.Call.{Call}
 use Rattle.vch_model.specs.declared.call.Call.TheVariants as calls
 use Rattle.vch_model.specs.declared.entry.Entry.{Entry}
 use Rattle.vch_model.specs.declared.lists.Scenario.{Scenario}
@@ -23,8 +22,8 @@ use Rattle.vch_machine.specs.Next.{current, nth_call}
 use Rattle.vch_legal.specs.Facts.{Fits}
 use Rattle.vch_legal.proofs.SeenTasks.{claims_task}
 use Rattle.vch_state.specs.declared.frame.Frame.{Frame}
-use Rattle.vch_state.specs.Plain.{Plain, Part, KeyParts, part_of, with_frame, number_at}
-use Rattle.vch_state.specs.Shape.{Indices, Shape, Optional, IsIndexOf, IsFrame, IsTask, slots_of}
+use Rattle.vch_state.specs.Plain.{Plain, KeyParts, part_of, with_frame, number_at}
+use Rattle.vch_state.specs.Shape.{Indices, Shape, IsIndexOf, IsFrame, IsTask, slots_of}
 use Rattle.vch_state.specs.UserOnly.{TakesUser}
 use Rattle.vch_state.specs.Pictures.{picture_of}
 use Rattle.vch_state.specs.Bounds.{open_of, in_all, unanswered_in}

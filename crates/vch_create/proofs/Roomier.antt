@@ -1,25 +1,23 @@
 -- With more room, the parts stand for what they stood for.
-use Rattle.std.proofs.Common.{◌≡◌, ℕ, ◌+◌, ◌-◌, ◌<◌, ◌≤◌, List, [], ◌∷◌, ◌++◌, refl, arith, sym, ap, ◌∙◌, length, get_or, subst, Option, Some, None}
+use Rattle.std.proofs.Common.{◌≡◌, ℕ, ◌+◌, ◌-◌, ◌<◌, ◌≤◌, List, [], ◌∷◌, ◌++◌, refl, arith, sym, ap, ◌∙◌, length, get_or, subst, Option}
 use Rattle.std.specs.List.{flat_map}
 use Rattle.vch_base.specs.declared.key.Key.{Key}
 use Rattle.vch_base.specs.declared.key.Key.TheVariants as keys
 use Rattle.vch_base.specs.Managers.{Kept, count, live_at}
-use Rattle.vch_entry.specs.declared.table.Entry.{Entry}
-use Rattle.vch_entry.specs.Entries.{Entries, handle_at, entry_at, made_of}
+use Rattle.vch_entry.specs.Entries.{Entries, handle_at}
 use Rattle.vch_table.specs.declared.table.Cell.{Cell}
-use Rattle.vch_value.specs.declared.flight.Receipt.{Receipt}
 use Rattle.vch_value.specs.Picture as picture
 use Rattle.vch_value.specs.Picture.{Picture, Claimed, Meets, flags_at, claims_at, entry_of}
 use Rattle.vch_model.specs.declared.lists.Scenario.{Scenario}
-use Rattle.vch_machine.specs.State.{of_key, Machine, tasked, living_at}
+use Rattle.vch_machine.specs.State.{of_key, Machine, tasked}
 use Rattle.vch_machine.specs.Next.{current}
 use Rattle.vch_state.specs.declared.parts.Parts.{Parts}
-use Rattle.vch_state.specs.Plain.{Plain, KeyParts, Part, part_of, idle_part, number_at}
+use Rattle.vch_state.specs.Plain.{Plain, Part, part_of, idle_part, number_at}
 use Rattle.vch_state.specs.Shape.{Shape, IsIndexOf, IsTask, IsTable, slots_of}
 use Rattle.vch_state.specs.Pictures.{picture_of, task_holds, part_expects, cell_holds, both, both_claimed}
-use Rattle.vch_state.specs.Stands.{StandsFor, KeyStands, IsLiving, all_live, all_asked, owed, SameTally}
-use Rattle.vch_state.specs.Bounds.{in_all, unanswered_in, open_in, begun_in}
-use Rattle.vch_state.specs.Reached.{plain_of, parts_in, IsState, IsEnd, Reached, Stands}
+use Rattle.vch_state.specs.Stands.{StandsFor, KeyStands, all_live, owed}
+use Rattle.vch_state.specs.Bounds.{in_all, unanswered_in}
+use Rattle.vch_state.specs.Reached.{plain_of, IsState, IsEnd, Reached, Stands}
 use Rattle.vch_state.proofs.Keys.{cells_same}
 use Rattle.vch_state.proofs.Stable.{task_stays}
 use Rattle.vch_create.specs.Makes.{IsRoomier}

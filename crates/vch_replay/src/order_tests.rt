@@ -47,7 +47,7 @@ fn ordered(alloc: Global, row: &Row) -> Result<Vec<u8>, Fail> {
     }
     drive(&mut core, row.order);
     finish(&mut core);
-    let report = report_of(&core)?;
+    let report = report_of(alloc, &core)?;
     Ok(vch_report::write(alloc, &report)?)
 }
 

@@ -21,7 +21,7 @@ fn turn_text(alloc: Global, scenario: &Scenario) -> Result<Vec<u8>, NoMemory>
 {
     let mut core = Core::start(alloc, scenario)?;
     finish(&mut core);
-    let report = report_of(&core)?;
+    let report = report_of(alloc, &core)?;
     vch_report::write(alloc, &report)
 }
 
@@ -33,7 +33,7 @@ fn seed_text(alloc: Global, scenario: &Scenario, seed: u64) -> Result<Vec<u8>, N
 {
     let mut core = Core::start(alloc, scenario)?;
     drive_seed(&mut core, seed);
-    let report = report_of(&core)?;
+    let report = report_of(alloc, &core)?;
     vch_report::write(alloc, &report)
 }
 

@@ -27,13 +27,13 @@ impl Core {
         ensures kind { value_kind (frame_of self.old.frames task) ≡ Some result }
         ensures event { Follows result task self.old self.new }
     {
-        let kind = self.value_kind(task);
+        let kind = self.value_kind(task).unwrap_or(Kind::LetGo);
         match kind {
-            Some(Kind::Refer) => self.refer_event(task),
-            Some(Kind::Ask) => self.ask_event(task),
-            Some(Kind::Recheck) => self.recheck_event(task),
+            Kind::Refer => self.refer_event(task),
+            Kind::Ask => self.ask_event(task),
+            Kind::Recheck => self.recheck_event(task),
             _ => self.let_go_event(task),
         }
-        kind.unwrap_or(Kind::LetGo)
+        kind
     }
 }

@@ -1,4 +1,4 @@
-use Rattle.std.proofs.Common.{◌≡◌, ◌≤◌, ◌∙◌, sym, ap, subst, length, take}
+use Rattle.std.proofs.Common.{◌≤◌, ◌∙◌, sym, ap, subst, length, take}
 use Rattle.vch_base.specs.declared.key.Key.TheVariants as keys
 use Rattle.vch_model.specs.declared.lists.Scenario.{Scenario}
 use Rattle.vch_create.specs.Makes.{receipts_in}

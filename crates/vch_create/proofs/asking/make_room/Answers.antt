@@ -1,4 +1,4 @@
-use Rattle.std.proofs.Common.{arith, ◌≡◌, ◌≤◌, ◌∙◌, sym, ap, subst, length}
+use Rattle.std.proofs.Common.{arith, ◌≤◌, ◌∙◌, sym, ap, subst, length}
 use Rattle.vch_model.specs.declared.lists.Scenario.{Scenario}
 use Rattle.vch_model.specs.Scenarios.{line_count}
 use Rattle.vch_create.proofs.MakeCalls.{calls_few, phases_few, slots_few, room_fits}

@@ -1,7 +1,6 @@
-use Rattle.std.proofs.Common.{◌≡◌, ◌<◌, ◌≤◌, ◌∙◌, sym, ap, refl, subst, length, Some, None, true, false}
+use Rattle.std.proofs.Common.{◌<◌, ◌≤◌, ◌∙◌, sym, ap, refl, subst, length}
 use Rattle.std.specs.Prelude.{Ok, Err}
 use Rattle.vch_value.specs.declared.flight.Made.TheVariants as made
-use Rattle.vch_base.specs.declared.manager.GetFault.TheVariants as fault
 use Rattle.vch_state.specs.declared.parts.Parts.{Parts}
 use Rattle.vch_create.specs.Makes.{Answers}
 use Rattle.vch_create.proofs.MakeCalls.{handle_few, past_few}

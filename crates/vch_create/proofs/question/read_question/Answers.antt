@@ -1,4 +1,4 @@
-use Rattle.std.proofs.Common.{◌≡◌, ◌≤◌, ◌∙◌, sym, ap, subst, length, Some}
+use Rattle.std.proofs.Common.{◌≤◌, ◌∙◌, sym, ap, subst, length, Some}
 use Rattle.std.specs.Option.{option_copied}
 use Rattle.vch_machine.specs.Next.{nth_call}
 use Rattle.vch_state.specs.declared.frames.Working.{Working}
