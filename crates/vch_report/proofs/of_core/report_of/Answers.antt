@@ -1,4 +1,4 @@
-use Rattle.std.proofs.Common.{◌≡◌, ◌∙◌, List, sym, ap, length, subst}
+use Rattle.std.proofs.Common.{◌∙◌, sym, ap, length, subst}
 use Rattle.std.specs.List.{AllByRecursion}
 use Rattle.vch_entry.specs.Entries.{IsApart}
 use Rattle.vch_model.specs.Rows.{Entries}
