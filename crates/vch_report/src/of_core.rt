@@ -163,10 +163,12 @@ pub fn report_of(alloc: Global, core: &Core) -> Result<Report, NoMemory>
     core.parts.user_entries.know();
     let history = copy_history(alloc, core.history())?;
     let totals = empty_totals(alloc, core.scenario().flags.len())?;
+    let vouchers = core.vouchers();
+    let values = core.values();
     Ok(Report {
         history,
         totals,
-        vouchers: core.vouchers(),
-        values: core.values(),
+        vouchers,
+        values,
     })
 }
