@@ -10,7 +10,7 @@ use Rattle.vch_model.specs.declared.entry.Entry.{Entry}
 use Rattle.vch_model.specs.declared.lists.Scenario.{Scenario}
 use Rattle.vch_model.specs.Canonical.{IsWritable}
 use Rattle.vch_model.specs.After.{store_of}
-use Rattle.vch_model.specs.Text.{totals_of, vouchers_in, values_in}
+use Rattle.vch_model.specs.Text.{Text, totals_of, vouchers_in, values_in}
 use Rattle.vch_machine.specs.State.{Machine, Frame, Tasked, seen}
 use Rattle.vch_legal.specs.Facts.{bit}
 use Rattle.vch_legal.specs.Tie as tie
@@ -25,6 +25,7 @@ use Rattle.vch_state.proofs.LiveCounts.{live_listed}
 use Rattle.vch_state.proofs.SlotsCounted.{slots_counted}
 use Rattle.vch_state.proofs.Spending.{begun_bound, refers_bound}
 use Rattle.vch_report.specs.declared.report.Report.{Report}
+use Rattle.vch_report.specs.Items.{text_of}
 use Rattle.vch_report.specs.OfCore.{HasBytes, HasTask, Making, Tells, no_totals}
 use Rattle.vch_report.specs.WellFormed.{IsEntry, IsTotal, IsWellFormed}
 use Rattle.vch_report.proofs.CoreTotals.{totals_are}
@@ -130,3 +131,7 @@ module _ (p : Parts) (reached : Reached p) (built : IsUserOnly p.scenario) (writ
         both : (xs : List Entry) → AllByRecursion (Formed p.scenario writable.limited built) xs → AllByRecursion (Making HasBytes) xs → AllByRecursion IsEntry xs
         both [] a b = tt
         both (x ∷ xs) a b = (a.0.entry b.0, both xs a.1 b.1)
+
+-- the text of a report that tells of a history is the history's
+pub told_text : (sc : Scenario) (history : List Entry) (report : Report) → Tells sc history report → text_of report ≡ Text history sc
+told_text sc history report t = rw (t.entries, t.totals, t.vouchers, t.values) refl
