@@ -1,10 +1,10 @@
 -- One more item of a history or a list that is copied.
-use Rattle.std.proofs.Common.{◌≡◌, ℕ, zero, suc, ◌+◌, ◌<◌, ◌≤◌, List, [], ◌∷◌, ◌++◌, refl, arith, sym, ap, ◌∙◌, subst, length, take, Option, Some, None}
-use Rattle.std.specs.Prelude.{slice_get, slice_index}
+use Rattle.std.proofs.Common.{◌≡◌, ℕ, zero, suc, ◌+◌, ◌≤◌, List, [], ◌∷◌, ◌++◌, refl, arith, sym, ap, ◌∙◌, subst, length, take, Some}
+use Rattle.std.specs.Prelude.{slice_get}
 use Rattle.std.specs.List.{AllByRecursion}
 use Rattle.vch_model.specs.Rows.{Entries}
 use Rattle.vch_model.specs.declared.entry.Entry.{Entry}
-use Rattle.vch_report.specs.OfCore.{HasBytes, HasTask, Making, no_total, no_totals}
+use Rattle.vch_report.specs.OfCore.{HasBytes, Making, no_total, no_totals}
 
 -- so many entries were copied, and there is room for the others
 pub record Copied (entries : List Entry) (i : ℕ) (made : Entries) : Type 0 where

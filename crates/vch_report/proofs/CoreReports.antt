@@ -1,5 +1,5 @@
 -- The report of a core tells of its history, and is well formed.
-use Rattle.std.proofs.Common.{◌≡◌, ℕ, zero, suc, ◌+◌, ◌-◌, ◌*◌, ◌^◌, ◌<◌, ◌≤◌, Bool, true, false, List, [], ◌∷◌, ◌++◌, refl, arith, sym, ap, ◌∙◌, subst, length, reverse, Option, Some, None, append_assoc, append-nil}
+use Rattle.std.proofs.Common.{◌≡◌, ℕ, zero, suc, ◌+◌, ◌^◌, ◌<◌, ◌≤◌, Bool, true, false, List, [], ◌∷◌, ◌++◌, refl, arith, sym, ap, ◌∙◌, subst, length, reverse, Option, Some, None, append_assoc, append-nil}
 use Rattle.std.specs.Prelude.{is_some}
 use Rattle.std.specs.List.{AllByRecursion}
 use Rattle.std.proofs.lemmas.List.{reverse-append, reverse-reverse}
@@ -9,9 +9,8 @@ use Rattle.vch_table.specs.Vouchers.{live_slots}
 use Rattle.vch_model.specs.declared.entry.Entry.{Entry}
 use Rattle.vch_model.specs.declared.lists.Scenario.{Scenario}
 use Rattle.vch_model.specs.Canonical.{IsWritable}
-use Rattle.vch_model.specs.Store.{Store}
 use Rattle.vch_model.specs.After.{store_of}
-use Rattle.vch_model.specs.Text.{totals_of, vouchers_in, values_in}
+use Rattle.vch_model.specs.Text.{Text, totals_of, vouchers_in, values_in}
 use Rattle.vch_machine.specs.State.{Machine, Frame, Tasked, seen}
 use Rattle.vch_legal.specs.Facts.{bit}
 use Rattle.vch_legal.specs.Tie as tie
@@ -26,7 +25,8 @@ use Rattle.vch_state.proofs.LiveCounts.{live_listed}
 use Rattle.vch_state.proofs.SlotsCounted.{slots_counted}
 use Rattle.vch_state.proofs.Spending.{begun_bound, refers_bound}
 use Rattle.vch_report.specs.declared.report.Report.{Report}
-use Rattle.vch_report.specs.OfCore.{HasBytes, HasTask, Making, Tells, no_total, no_totals}
+use Rattle.vch_report.specs.Items.{text_of}
+use Rattle.vch_report.specs.OfCore.{HasBytes, HasTask, Making, Tells, no_totals}
 use Rattle.vch_report.specs.WellFormed.{IsEntry, IsTotal, IsWellFormed}
 use Rattle.vch_report.proofs.CoreTotals.{totals_are}
 use Rattle.vch_report.proofs.LegalEntries.{Formed, past_formed}
@@ -131,3 +131,7 @@ module _ (p : Parts) (reached : Reached p) (built : IsUserOnly p.scenario) (writ
         both : (xs : List Entry) → AllByRecursion (Formed p.scenario writable.limited built) xs → AllByRecursion (Making HasBytes) xs → AllByRecursion IsEntry xs
         both [] a b = tt
         both (x ∷ xs) a b = (a.0.entry b.0, both xs a.1 b.1)
+
+-- the text of a report that tells of a history is the history's
+pub told_text : (sc : Scenario) (history : List Entry) (report : Report) → Tells sc history report → text_of report ≡ Text history sc
+told_text sc history report t = rw (t.entries, t.totals, t.vouchers, t.values) refl

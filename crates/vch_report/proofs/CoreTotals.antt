@@ -1,5 +1,5 @@
 -- What the history of a core adds up to: no assertions and no charges, and the values and vouchers that live.
-use Rattle.std.proofs.Common.{◌≡◌, ℕ, zero, suc, ◌+◌, ◌-◌, ◌<◌, ◌≤◌, ◌==◌, Bool, true, false, cond, List, [], ◌∷◌, ◌++◌, refl, arith, sym, ap, ◌∙◌, subst, length, nat_lt, Option, Some, None}
+use Rattle.std.proofs.Common.{◌≡◌, ℕ, zero, suc, ◌+◌, ◌≤◌, ◌==◌, Bool, true, false, cond, List, [], ◌∷◌, ◌++◌, refl, arith, sym, ap, ◌∙◌, subst, length, nat_lt, Option, Some, None}
 use Rattle.std.specs.List.{flat_map, sum_by}
 use Rattle.std.proofs.lemmas.List.Sums.{sum_by-cons}
 use Rattle.vch_base.specs.declared.key.Key.{Key}
@@ -25,7 +25,6 @@ use Rattle.vch_model.specs.Text.{totals_from, totals_of}
 use Rattle.vch_model.specs.Totals.{held, out, ledger, weight, tasks_of, last_is, first_is, is_done}
 use Rattle.vch_machine.specs.State.{Place, Living, Machine, living_at, alive_of, seen}
 use Rattle.vch_legal.specs.Conserved.{each_task, accepted, charge_in, dues}
-use Rattle.vch_legal.specs.Facts.{Fits}
 use Rattle.vch_legal.proofs.Ledgers.{charges_are_kept}
 use Rattle.vch_legal.proofs.SeenValues.{Each, each_of, at_most_once}
 use Rattle.vch_state.specs.declared.parts.Parts.{Parts}

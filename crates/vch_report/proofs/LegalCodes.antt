@@ -1,16 +1,16 @@
 -- The codes of a create: each is one that a report may have.
-use Rattle.std.proofs.Common.{◌≡◌, ℕ, zero, suc, ◌==◌, nat_lt, ◌&&◌, ◌||◌, Bool, true, false, not, cond, List, [], ◌∷◌, length, refl, Option, Some, None, Result, Ok, Err, inl, inr}
+use Rattle.std.proofs.Common.{ℕ, zero, suc, ◌==◌, nat_lt, ◌&&◌, ◌||◌, Bool, true, false, not, cond, List, length, refl, Option, Some, None, Result, Ok, Err, inl, inr}
 use Rattle.std.specs.Prelude.{ℤ, pos, negsuc}
 use Rattle.vch_base.specs.declared.key.Key.{Key}
 use Rattle.vch_base.specs.declared.key.Key.TheVariants as keys
 use Rattle.vch_base.specs.declared.value.Value.{Value}
 use Rattle.vch_base.specs.declared.flags.Flags.{Flags}
 use Rattle.vch_base.specs.Keys.{key_of}
-use Rattle.vch_base.specs.Managers.{answer, own_answer, bare}
+use Rattle.vch_base.specs.Managers.{own_answer, bare}
 use Rattle.vch_recipe.specs.Recipes.{First, One, End, HeaderCut, ContentCut, first_of}
 use Rattle.vch_recipe.specs.declared.recipe.Recipe.{Recipe}
 use Rattle.vch_model.specs.Voucher.{Voucher, nothing}
-use Rattle.vch_model.specs.Eval.{answer_to, put_answer, previous_value, ask, ask_at, at_key, changes, copied, takes, loses, carried, with_previous, eval, eval_all, made_of, create}
+use Rattle.vch_model.specs.Eval.{answer_to, put_answer, previous_value, ask_at, at_key, changes, copied, takes, loses, carried, with_previous, eval, eval_all, made_of, create}
 use Rattle.vch_report.specs.WellFormed.{IsRefusal}
 
 -- a result whose code a report may have

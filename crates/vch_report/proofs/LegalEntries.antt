@@ -1,7 +1,7 @@
 -- Each entry of a legal history of creates and drops has a text, where its bytes are bytes.
-use Rattle.std.proofs.Common.{◌≡◌, ◌⊎◌, ℕ, zero, suc, ◌+◌, ◌-◌, ◌<◌, ◌≤◌, ◌==◌, nat_lt, ◌&&◌, ◌||◌, Bool, true, false, cond, List, [], ◌∷◌, ◌++◌, refl, arith, sym, ap, ◌∙◌, subst, length, get_or, Option, Some, None, Result, Ok, Err, inl, inr}
-use Rattle.std.specs.Prelude.{ℤ, pos}
-use Rattle.std.specs.List.{AllByRecursion, list_all, list_any}
+use Rattle.std.proofs.Common.{◌≡◌, ℕ, zero, suc, ◌+◌, ◌-◌, ◌<◌, ◌≤◌, ◌==◌, nat_lt, ◌&&◌, Bool, true, false, cond, List, [], ◌∷◌, ◌++◌, refl, arith, sym, ap, subst, length, get_or, Option, Some, None, Result, Ok, Err, inl, inr}
+use Rattle.std.specs.Prelude.{ℤ}
+use Rattle.std.specs.List.{AllByRecursion}
 use Rattle.std.proofs.lemmas.Grind.{common_steps}
 use Rattle.std.proofs.Math.ListN.{set}
 use Rattle.vch_base.specs.declared.key.Key.{Key}
@@ -10,7 +10,7 @@ use Rattle.vch_base.specs.declared.value.Value.{Value}
 use Rattle.vch_base.specs.declared.value.Value.TheVariants as values
 use Rattle.vch_base.specs.declared.flags.Flags.{Flags}
 use Rattle.vch_base.specs.Keys.{key_of}
-use Rattle.vch_base.specs.Values.{Belongs, BelongsAt, is_default, task_numbers}
+use Rattle.vch_base.specs.Values.{BelongsAt, task_numbers}
 use Rattle.vch_model.specs.declared.call.Call.{Call}
 use Rattle.vch_model.specs.declared.call.Call.TheVariants as calls
 use Rattle.vch_model.specs.declared.call.Line.{Line}
@@ -18,24 +18,23 @@ use Rattle.vch_model.specs.declared.call.Word.{Word}
 use Rattle.vch_model.specs.declared.entry.Entry.{Entry}
 use Rattle.vch_model.specs.declared.entry.Entry.TheVariants as entries
 use Rattle.vch_model.specs.declared.entry.Reply.{Reply}
-use Rattle.vch_model.specs.declared.entry.Reply.TheVariants as replies
 use Rattle.vch_model.specs.declared.lists.Scenario.{Scenario}
 use Rattle.vch_model.specs.Voucher.{Voucher, equal_vouchers}
-use Rattle.vch_model.specs.Store.{Store, Member, Named, Alive, nobody, start, member, set_member, voucher_of, name_of, name_for, one_more, one_less, with_name, gives_name, given, is_live}
+use Rattle.vch_model.specs.Store.{Store, Member, Named, Alive, nobody, start, member, set_member, voucher_of, name_of, name_for, one_more, one_less, with_name, gives_name, is_live}
 use Rattle.vch_model.specs.Eval.{create}
-use Rattle.vch_model.specs.After.{is_want, placed, let_go, without_made, store_after, store_after_call, store_after_line, store_of}
+use Rattle.vch_model.specs.After.{is_want, placed, without_made, store_after_call, store_after_line, store_of}
 use Rattle.vch_model.specs.Lines.{calls_in, is_task, line_at}
 use Rattle.vch_model.specs.Words.{word_of}
 use Rattle.vch_model.specs.Scenarios.{IsLimited}
 use Rattle.vch_model.specs.Totals.{named_voucher}
-use Rattle.vch_model.specs.Replies.{refused, created, given_up, reply_to}
+use Rattle.vch_model.specs.Replies.{created, given_up, reply_to}
 use Rattle.vch_model.specs.Legal.{LegalPast, CanFollow, Answers, IsAnswer, IsUnheld, all_tasks, find_made}
 use Rattle.vch_legal.proofs.Conservation.{task_range}
 use Rattle.vch_model.specs.UserOnly.{IsUserCall, IsUserOnly}
 use Rattle.vch_report.specs.OfCore.{HasBytes, HasTask, Making}
-use Rattle.vch_report.specs.WellFormed.{IsEntry, IsNumber, IsRanged, IsRefusal, IsReply}
+use Rattle.vch_report.specs.WellFormed.{IsEntry, IsNumber, IsRanged, IsReply}
 use Rattle.vch_report.proofs.LegalCodes.{Coded, create_coded, no_name, want}
-use Rattle.vch_report.proofs.ScenarioLines.{Answered, answered}
+use Rattle.vch_report.proofs.ScenarioLines.{answered}
 
 -- The names of a task are below its next, which is at most one above its calls.
 

@@ -10,7 +10,12 @@
 //! text is a report's or has one first line that can't stand (`one_answer`), and `read` answers
 //! just that.
 //!
+//! A [`Core`](vch_state::Core) whose phases have ended has a report, which [`report_of`] makes: its
+//! own history, what lives at its end, and totals of zeros, since it runs creates and drops of user
+//! data only.
+//!
 //! ```text
+//! let report = report_of(alloc, &core)?;       // of a run that has ended
 //! let report = read(alloc, text)?;             // or `At { line }`
 //! let again = write(alloc, &report)?;          // the same bytes as `text`
 //! ```

@@ -146,8 +146,8 @@ fn empty_totals(alloc: Global, count: usize) -> Result<TotalList, NoMemory>
 /// The report of a core whose phases have all ended: a copy of its history, and what lives at its end.
 ///
 /// The core runs creates and drops of user data only, so no task holds assertions or has a ledger: the totals are those of
-/// such scenarios, a line of zeros for each task. Time and room are linear in the history, the number of tasks, and the
-/// sizes of the tables of vouchers and handles.
+/// such scenarios, zeros for each task. The room is linear in the history and the number of tasks, and is taken for all
+/// entries at once; the time is linear in these and in the sizes of the tables of vouchers and handles.
 ///
 /// # Errors
 ///
@@ -163,10 +163,12 @@ pub fn report_of(alloc: Global, core: &Core) -> Result<Report, NoMemory>
     core.parts.user_entries.know();
     let history = copy_history(alloc, core.history())?;
     let totals = empty_totals(alloc, core.scenario().flags.len())?;
+    let vouchers = core.vouchers();
+    let values = core.values();
     Ok(Report {
         history,
         totals,
-        vouchers: core.vouchers(),
-        values: core.values(),
+        vouchers,
+        values,
     })
 }

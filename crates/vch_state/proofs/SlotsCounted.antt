@@ -1,5 +1,5 @@
 -- How many vouchers names and messages have: the live slots of the table are the different vouchers of the store.
-use Rattle.std.proofs.Common.{◌≡◌, ◌≢◌, ℕ, zero, suc, ◌+◌, ◌-◌, ◌<◌, ◌≤◌, ◌==◌, nat_lt, ◌&&◌, ◌||◌, Bool, true, false, cond, List, [], ◌∷◌, ◌++◌, refl, arith, sym, ap, ◌∙◌, subst, length, map, get_or, Option, Some, None}
+use Rattle.std.proofs.Common.{◌≡◌, ℕ, suc, ◌+◌, ◌-◌, ◌<◌, ◌≤◌, ◌==◌, nat_lt, ◌||◌, Bool, true, false, cond, List, [], ◌∷◌, ◌++◌, refl, arith, sym, ap, ◌∙◌, subst, length, map, get_or, Option, Some, None}
 use Rattle.std.specs.Prelude.{is_some}
 use Rattle.std.specs.List.{list_any, flat_map, AllByRecursion}
 use Rattle.std.proofs.lemmas.Grind.{common_steps}
@@ -14,17 +14,16 @@ use Rattle.vch_table.specs.Vouchers.{Vouchers, live_slots, references_of}
 use Rattle.vch_model.specs.Voucher.{Voucher, equal_vouchers}
 use Rattle.vch_model.specs.Store as store
 use Rattle.vch_model.specs.Replies.{all_vouchers, different, vouchers_of}
-use Rattle.vch_model.specs.declared.lists.Scenario.{Scenario}
-use Rattle.vch_machine.specs.State.{Handles, Place, Living, Named, Message, Tasked, Machine, tasked, idle, living_at, valued, valued_option, named_of, message_of, member_of, seen, has_place, option_has, task_holds, frame_holds}
+use Rattle.vch_machine.specs.State.{Handles, Place, Living, Named, Message, Tasked, Machine, idle, living_at, valued, valued_option, named_of, message_of, member_of, seen, has_place, option_has, task_holds}
 use Rattle.vch_machine.specs.Naming.{same_handle, same_handles}
-use Rattle.vch_legal.specs.Facts.{bit, Different, Fits}
+use Rattle.vch_legal.specs.Facts.{bit, Different}
 use Rattle.vch_legal.proofs.HeldLive.{held_live, voucher_live}
 use Rattle.vch_legal.proofs.LeaveSpots.{or_left, or_right}
 use Rattle.vch_legal.proofs.PutSpots.{handles_eq}
 use Rattle.vch_legal.proofs.SeenHeld.{not_true}
 use Rattle.vch_legal.proofs.SeenNames.{LiveAll, same_vouchers}
 use Rattle.vch_state.specs.declared.parts.Parts.{Parts}
-use Rattle.vch_state.specs.Plain.{Plain, Part, SlotName, SlotMessage, part_of, idle_part}
+use Rattle.vch_state.specs.Plain.{Plain, Part, SlotName, SlotMessage, idle_part}
 use Rattle.vch_state.specs.Shape.{Shape, IsTable, Pairwise, Optional, IsMap, HasMap, IsSlotOf, IsName, IsMessage, slots_of, is_slot, named_by, queued_by, referred_by}
 use Rattle.vch_state.specs.Shape as shape
 use Rattle.vch_state.specs.Stands.{StandsFor}

@@ -1,4 +1,3 @@
-use Rattle.std.proofs.Common.{◌≡◌, ◌≤◌, ◌+◌, length, take}
 use Rattle.vch_report.proofs.CopyLoops.{Copied}
 use Rattle.vch_report.proofs.of_core.copy_history.Given as goal
 

@@ -1,4 +1,4 @@
-use Rattle.std.proofs.Common.{◌≡◌, ◌∙◌, List, sym, ap, length, subst}
+use Rattle.std.proofs.Common.{◌∙◌, sym, ap, length, subst}
 use Rattle.std.specs.List.{AllByRecursion}
 use Rattle.vch_entry.specs.Entries.{IsApart}
 use Rattle.vch_model.specs.Rows.{Entries}
@@ -12,15 +12,13 @@ pub copy_history-requires : goal.copy_history-requires
 copy_history-requires c = subst (λ (h : Entries). AllByRecursion (Making HasTask) h.entries) (sym c.history.ensures) (core_copied c.args.core.now c.know.ensures c.requires.built c.requires.writable)
 
 pub returns-clause-tells : goal.returns-clause-tells
-returns-clause-tells c = core_tells c.args.core.now c.know.ensures c.requires.built c.requires.writable
-    (record { history = c.in_ok-history.history; totals = c.in_ok-totals.totals; vouchers = c.vouchers.result; values = c.values.result })
+returns-clause-tells c = core_tells c.args.core.now c.know.ensures c.requires.built c.requires.writable _
     (c.in_ok-history.ensures.same ∙ ap (λ (h : Entries). h.entries) c.history.ensures)
     (c.in_ok-totals.ensures ∙ ap no_totals (c.len.ensures ∙ ap (λ (sc : Scenario). length sc.flags) c.scenario.ensures))
-    (subst (λ (p : Parts). IsApart p.user_entries.slots) c.core.view_is c.know-2.ensures) c.vouchers.ensures c.values.ensures
+    (subst (λ (p : Parts). IsApart p.user_entries.slots) c.core.view_is c.know-2.ensures) c.vouchers-vouchers.ensures c.values-values.ensures
 
 pub returns-clause-well_formed : goal.returns-clause-well_formed
-returns-clause-well_formed c = core_formed c.args.core.now c.know.ensures c.requires.built c.requires.writable
-    (record { history = c.in_ok-history.history; totals = c.in_ok-totals.totals; vouchers = c.vouchers.result; values = c.values.result })
+returns-clause-well_formed c = core_formed c.args.core.now c.know.ensures c.requires.built c.requires.writable _
     (c.in_ok-history.ensures.same ∙ ap (λ (h : Entries). h.entries) c.history.ensures)
     (c.in_ok-totals.ensures ∙ ap no_totals (c.len.ensures ∙ ap (λ (sc : Scenario). length sc.flags) c.scenario.ensures))
-    c.in_ok-history.ensures.bytes c.vouchers.type_inv c.values.type_inv
+    c.in_ok-history.ensures.bytes c.vouchers-vouchers.type_inv c.values-values.type_inv
