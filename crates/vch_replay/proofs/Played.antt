@@ -1,5 +1,7 @@
 -- What a run to the end tells: its history is whole, and its report's text is that of the history.
-use Rattle.std.proofs.Common.{◌≡◌, ℕ, ◌<◌, ◌≤◌, nat_lt, Bool, true, false, not, List, [], ◌∷◌, refl, arith, sym, ap, ◌∙◌, length, reverse, subst, Option, Some, None}
+use Rattle.std.proofs.Common.{◌≡◌, ℕ, ◌<◌, ◌≤◌, nat_lt, Bool, true, false, not, List, [], ◌∷◌, refl, arith, sym, ap, ◌∙◌, length, reverse, subst, Option, Some, None, Result, Ok, Err, IfOk}
+use Rattle.std.specs.Global.{Vec}
+use Rattle.vch_base.specs.declared.fault.NoMemory.{NoMemory}
 use Rattle.std.proofs.lemmas.List.{reverse-reverse}
 use Rattle.std.proofs.lemmas.Grind.{common_steps}
 use Rattle.vch_base.specs.declared.key.Key.TheVariants as keys
@@ -76,3 +78,15 @@ seed_report seed sc p q report text same s f t e =
       };
       by_seed = record { bound = f.bound; wants = f.wants; run = w };
     }
+
+-- Where the text was made.
+
+pub turn_ok : (sc : Scenario) (p q : Parts) (report : Report) (result : Result (Vec ℕ) NoMemory) → p.scenario ≡ sc → Stands p (start sc) → EndsInTurn p q → Tells q.scenario q.history.entries report
+    → IfOk result (λ text. text.items ≡ text_of report) → IfOk result (λ text. IsTurnReport sc text.items)
+turn_ok sc p q report (Ok text) same s f t e = turn_report sc p q report text.items same s f t e
+turn_ok sc p q report (Err fault) same s f t e = tt
+
+pub seed_ok : (seed : ℕ) (sc : Scenario) (p q : Parts) (report : Report) (result : Result (Vec ℕ) NoMemory) → p.scenario ≡ sc → Stands p (start sc) → EndsBySeed seed p q → Tells q.scenario q.history.entries report
+    → IfOk result (λ text. text.items ≡ text_of report) → IfOk result (λ text. IsSeedReport seed sc text.items)
+seed_ok seed sc p q report (Ok text) same s f t e = seed_report seed sc p q report text.items same s f t e
+seed_ok seed sc p q report (Err fault) same s f t e = tt

@@ -1,4 +1,5 @@
-ghost use Rattle.std.specs.Prelude.{◌≡◌, ◌↔◌, IsTrue, codes, map, string_bytes};
+ghost use Rattle.std.specs.Prelude.{◌≡◌, ◌^◌, map, string_bytes};
+ghost use Rattle.vch_report.specs.Numerals.{below};
 ghost use Rattle.vch_replay.specs.Commands.{command_of, command_in, seeded};
 
 use vch_text::parse_u64;
@@ -33,15 +34,27 @@ fn command_in(word: &str) -> Option<Command>
     None
 }
 
-/// The command of two words: a run by a seed, which is a decimal number below 2 to the 64 without leading zeros.
+/// The seed that a word spells: a decimal number below 2 to the 64 without leading zeros.
+fn seed_in(word: &str) -> Option<u64>
+    ensures { result ≡ below (2 ^ 64) word.now }
+{
+    let n = parse_u64(word.as_bytes())?;
+    Some(n)
+}
+
+/// The command of two words: a run by a seed.
+#[tactic(auto, unfolding(crate::specs::Commands::seeded))]
 fn seeded(word: &str, seed: &str) -> Option<Command>
     ensures { result ≡ seeded word.now seed.now }
 {
-    if word != "play" {
-        return None;
+    let plays = word == "play";
+    if plays {
+        return match seed_in(seed) {
+            Some(seed) => Some(Command::PlaySeed { seed }),
+            None => None,
+        };
     }
-    let seed = parse_u64(seed.as_bytes())?;
-    Some(Command::PlaySeed { seed })
+    None
 }
 
 /// The command of all words, or none where they are no form.

@@ -1,7 +1,7 @@
 ghost use Rattle.std.specs.Prelude.{◌≡◌, [], ◌∷◌, IfOk};
 ghost use Rattle.vch_base.specs.Managers.{no_flags};
 ghost use Rattle.vch_model.specs.Canonical.{IsWritable};
-ghost use Rattle.vch_state.specs.UserOnly.{IsUserOnly};
+ghost use Rattle.vch_model.specs.UserOnly.{IsUserOnly};
 
 use crate::{ReportFault, read, report_of, write};
 use std::alloc::Global;
