@@ -1,5 +1,5 @@
 -- The cursor after a move.
-use Rattle.std.proofs.Common.{◌≡◌, ℕ, zero, suc, ◌+◌, ◌-◌, ◌<◌, ◌≤◌, ◌==◌, Bool, true, false, List, [], ◌∷◌, ◌++◌, refl, arith, sym, ap, ◌∙◌, length, get_or, subst, Option, Some, None}
+use Rattle.std.proofs.Common.{◌≡◌, ℕ, ◌+◌, ◌-◌, ◌≤◌, ◌==◌, Bool, true, false, List, [], ◌∷◌, ◌++◌, refl, arith, sym, ap, ◌∙◌, length, get_or, subst, Option, Some, None}
 use Rattle.std.specs.List.{count_by, AllByRecursion}
 use Rattle.vch_model.specs.declared.call.Line.{Line}
 use Rattle.vch_model.specs.declared.lists.Scenario.{Scenario}
@@ -17,10 +17,10 @@ use Rattle.vch_state.specs.declared.parts.Parts.{Parts}
 use Rattle.vch_state.specs.declared.frames.Working.{Working}
 use Rattle.vch_state.specs.Plain.{begun_of}
 use Rattle.vch_state.specs.Bounds.{IsOfTask}
-use Rattle.vch_state.specs.Reached.{Reached, Stands}
+use Rattle.vch_state.specs.Reached.{Reached}
 use Rattle.vch_core.specs.declared.turn.Cursor.{Cursor}
-use Rattle.vch_core.specs.Turning.{CanGo, Goes, IsPassed, IsCursor, CursorAt, AreBegun, current_lines, lines_before, lines_of_task, seen_after, rewound}
-use Rattle.vch_core.proofs.Framed.{Reach, reach, from_state, begun_same}
+use Rattle.vch_core.specs.Turning.{Goes, IsPassed, IsCursor, CursorAt, AreBegun, lines_of_task, seen_after, rewound}
+use Rattle.vch_core.proofs.Framed.{reach, from_state, begun_same}
 use Rattle.vch_core.proofs.Growing.{Grows, event_grows}
 use Rattle.vch_core.proofs.Waiting.{same_phase, phase_of_tasks}
 

@@ -14,9 +14,8 @@ use Rattle.vch_machine.specs.Schedules.{picked, seed_after, next_seed, drawn}
 use Rattle.vch_legal.proofs.Turns.{all_tasks}
 use Rattle.vch_state.specs.declared.parts.Parts.{Parts}
 use Rattle.vch_state.specs.Reached.{Reached, Stands, IsNext}
-use Rattle.vch_create.specs.Called.{HasNext}
 use Rattle.vch_core.specs.Turning.{all_of, AreReady, IsDraw, IsResting, CanGo}
-use Rattle.vch_core.proofs.Framed.{Reach, reach, next_of}
+use Rattle.vch_core.proofs.Framed.{reach, next_of}
 use Rattle.vch_core.proofs.Turned.{for_all}
 
 -- the tasks below a number that have a next event; all of these are tasks

@@ -1,9 +1,8 @@
 -- An order of steps.
-use Rattle.std.proofs.Common.{◌≡◌, ℕ, zero, suc, ◌+◌, ◌<◌, ◌≤◌, ◌==◌, nat_lt, Bool, true, false, not, List, [], ◌∷◌, refl, arith, sym, ap, ◌∙◌, length, drop, get_or, subst, Option, Some, None}
-use Rattle.std.specs.Prelude.{if◌then◌else◌, slice_get}
+use Rattle.std.proofs.Common.{◌≡◌, ℕ, zero, suc, ◌+◌, ◌<◌, ◌≤◌, nat_lt, Bool, true, false, not, List, [], ◌∷◌, refl, arith, sym, ap, ◌∙◌, length, drop, get_or, subst, Some, None}
+use Rattle.std.specs.Prelude.{if◌then◌else◌}
 use Rattle.std.specs.List.{AllByRecursion}
 use Rattle.std.proofs.lemmas.Grind.{common_steps}
-use Rattle.vch_base.specs.declared.kind.Kind.{Kind}
 use Rattle.vch_model.specs.declared.lists.Scenario.{Scenario}
 use Rattle.vch_model.specs.Lines.{is_task, phases_in}
 use Rattle.vch_machine.specs.State.{Machine, tasked}
@@ -11,7 +10,7 @@ use Rattle.vch_machine.specs.Next.{next_kind}
 use Rattle.vch_machine.specs.Events.{event, event_of}
 use Rattle.vch_machine.specs.Schedules.{has_ended}
 use Rattle.vch_state.specs.declared.parts.Parts.{Parts}
-use Rattle.vch_state.specs.Reached.{Stands, MayFollow, IsNext}
+use Rattle.vch_state.specs.Reached.{Stands}
 use Rattle.vch_core.specs.declared.stepped.Stepped.{Stepped}
 use Rattle.vch_core.specs.declared.stepped.Stepped.TheVariants as result
 use Rattle.vch_core.specs.Steps.{Steps}
@@ -86,7 +85,7 @@ drives_more p q r t order a d = record {
   wants = and_at (length order) a.want d.wants;
   stands = λ m s.
       let e : Stands r (driven p.scenario d.wants order (stepped p.scenario a.want m t)) =
-          subst (λ sc. Stands r (driven sc d.wants order (stepped p.scenario a.want m t))) a.scenario (d.stands (stepped p.scenario a.want m t) (a.stands m s)) in
+      subst (λ sc. Stands r (driven sc d.wants order (stepped p.scenario a.want m t))) a.scenario (d.stands (stepped p.scenario a.want m t) (a.stands m s)) in
       subst (Stands r) (sym (ap (λ b. driven p.scenario (and_at (length order) a.want d.wants) order (stepped p.scenario b m t)) (at_own (length order) a.want d.wants)
       ∙ driven_same p.scenario (and_at (length order) a.want d.wants) d.wants order (stepped p.scenario a.want m t) (λ i l. at_below (length order) i a.want d.wants l))) e;
 }

@@ -6,7 +6,7 @@ use Rattle.vch_model.specs.declared.lists.Scenario.{Scenario}
 use Rattle.vch_model.specs.Lines.{phases_in}
 use Rattle.vch_model.specs.Scenarios.{line_count}
 use Rattle.vch_machine.specs.State.{Machine, start}
-use Rattle.vch_machine.specs.Events.{numbers, ready}
+use Rattle.vch_machine.specs.Events.{ready}
 use Rattle.vch_machine.specs.Schedules.{Move, happens, run, run_from_start, in_turn, by_seed, move_of, lowest_open, turn_task, picked, seed_after, has_ended}
 use Rattle.vch_legal.specs.Left.{left}
 use Rattle.vch_legal.proofs.Runs.{reached_stands}
@@ -17,7 +17,7 @@ use Rattle.vch_state.specs.Reached.{Reached, Stands}
 use Rattle.vch_state.proofs.RunOn.{run_on}
 use Rattle.vch_core.specs.Runs.{RunsTo, EndsInTurn, EndsBySeed}
 use Rattle.vch_core.specs.Turning.{all_of, IsTurn, IsDraw, Goes, Turns, Draws}
-use Rattle.vch_core.proofs.Framed.{Reach, reach}
+use Rattle.vch_core.proofs.Framed.{reach}
 use Rattle.vch_core.proofs.Waiting.{same_phase}
 
 -- What is left.
@@ -110,7 +110,7 @@ turn_moves : (sc : Scenario) (n : ℕ) (want : Bool) (wants : ℕ → Bool) (m k
 unfolding in_turn
 turn_moves sc n want wants m k choice over turn e =
     let a : move_of (and_at n want wants) n (turn_task sc m (lowest_open m (all_of sc))) ≡ choice_move want choice =
-        ap (move_of (and_at n want wants) n) turn ∙ same_move (and_at n want wants) (λ _. want) n 0 choice (at_own n want wants) in
+    ap (move_of (and_at n want wants) n) turn ∙ same_move (and_at n want wants) (λ _. want) n 0 choice (at_own n want wants) in
     rw (over, a, e) (one_move sc (choice_move want choice) (in_turn n (and_at n want wants) sc (Some k)) m k e ∙ ap (λ rest. run sc rest (Some k)) (turn_same n (and_at n want wants) wants sc (Some k) (λ i l. at_below n i want wants l)))
 
 seed_moves : (sc : Scenario) (n s next : ℕ) (want : Bool) (wants : ℕ → Bool) (m k : Machine) (choice : Option ℕ) → has_ended sc m ≡ false
@@ -119,7 +119,7 @@ seed_moves : (sc : Scenario) (n s next : ℕ) (want : Bool) (wants : ℕ → Boo
 unfolding by_seed
 seed_moves sc n s next want wants m k choice over turn after e =
     let a : move_of (and_at n want wants) n (picked (ready sc m (all_of sc)) next) ≡ choice_move want choice =
-        ap (move_of (and_at n want wants) n) turn ∙ same_move (and_at n want wants) (λ _. want) n 0 choice (at_own n want wants) in
+    ap (move_of (and_at n want wants) n) turn ∙ same_move (and_at n want wants) (λ _. want) n 0 choice (at_own n want wants) in
     rw (over, after, a, e) (one_move sc (choice_move want choice) (by_seed n next (and_at n want wants) sc (Some k)) m k e ∙ ap (λ rest. run sc rest (Some k)) (seed_same n next (and_at n want wants) wants sc (Some k) (λ i l. at_below n i want wants l)))
 
 -- Of parts.

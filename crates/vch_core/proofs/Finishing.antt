@@ -1,6 +1,5 @@
 -- What the loops of a whole run keep.
-use Rattle.std.proofs.Common.{◌≡◌, ℕ, ◌+◌, ◌<◌, length, refl, sym, ◌∙◌, subst}
-use Rattle.vch_model.specs.declared.lists.Scenario.{Scenario}
+use Rattle.std.proofs.Common.{◌≡◌, ℕ, ◌+◌, ◌<◌, length, refl, ◌∙◌}
 use Rattle.vch_state.specs.declared.parts.Parts.{Parts}
 use Rattle.vch_state.specs.Reached.{Reached}
 use Rattle.vch_core.specs.declared.turn.Cursor.{Cursor}

@@ -4,7 +4,6 @@ use Rattle.std.specs.Prelude.{is_some, IsSome, ◌↔◌, nat_lt}
 use Rattle.std.proofs.lemmas.Grind.{common_steps}
 use Rattle.vch_base.specs.declared.kind.Kind.{Kind}
 use Rattle.vch_base.specs.declared.key.Key.TheVariants as keys
-use Rattle.vch_model.specs.declared.lists.Scenario.{Scenario}
 use Rattle.vch_model.specs.declared.call.Call.{Call}
 use Rattle.vch_model.specs.Lines.{is_task}
 use Rattle.vch_machine.specs.State as machine
@@ -12,7 +11,6 @@ use Rattle.vch_machine.specs.State.{Machine, tasked}
 use Rattle.vch_machine.specs.Next.{next_kind, current}
 use Rattle.vch_machine.specs.Events.{event}
 use Rattle.vch_machine.specs.Schedules.{Move, run_from_start}
-use Rattle.vch_legal.specs.Tie as tie
 use Rattle.vch_legal.proofs.Runs.{reached_stands}
 use Rattle.vch_legal.proofs.Turns.{opened_next}
 use Rattle.vch_state.specs.declared.parts.Parts.{Parts}

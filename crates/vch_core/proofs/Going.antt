@@ -1,5 +1,5 @@
 -- The move that was chosen is made.
-use Rattle.std.proofs.Common.{◌≡◌, ℕ, ◌<◌, Bool, true, false, List, [], ◌∷◌, length, sym, ap, refl, subst, Option, Some, None, IsTrue}
+use Rattle.std.proofs.Common.{◌≡◌, ℕ, ◌<◌, Bool, false, List, [], ◌∷◌, length, sym, ap, refl, subst, Option, Some, None, IsTrue}
 use Rattle.std.specs.Prelude.{is_some, if◌then◌else◌, ◌↔◌}
 use Rattle.std.specs.List.{AllByRecursion}
 use Rattle.vch_base.specs.declared.kind.Kind.{Kind}
@@ -11,7 +11,7 @@ use Rattle.vch_state.proofs.PhaseEnds.{over_of, number_within}
 use Rattle.vch_machine.specs.State.{Machine}
 use Rattle.vch_machine.specs.Next.{next_kind}
 use Rattle.vch_state.specs.declared.parts.Parts.{Parts}
-use Rattle.vch_state.specs.Reached.{Reached, IsState, MayFollow, Stands, IsNext, plain_of}
+use Rattle.vch_state.specs.Reached.{Reached, IsState, MayFollow, IsNext, plain_of}
 use Rattle.vch_create.specs.Called.{HasNext}
 use Rattle.vch_core.specs.Turning.{all_of, IsResting, CanGo, Goes}
 use Rattle.vch_core.proofs.Framed.{did, next_of, is_true}

@@ -1,13 +1,12 @@
 -- No event takes back a call that was begun, and none but the end of a phase ends one.
-use Rattle.std.proofs.Common.{◌≡◌, ℕ, zero, suc, ◌-◌, ◌≤◌, List, [], ◌∷◌, refl, sym, ap, ◌∙◌, arith, get_or, Bool, Some}
+use Rattle.std.proofs.Common.{◌≡◌, ℕ, zero, suc, ◌-◌, ◌≤◌, List, [], ◌∷◌, refl, ap, ◌∙◌, arith, get_or, Bool, Some}
 use Rattle.std.proofs.Math.ListN.{get_or-map, set}
-use Rattle.vch_model.specs.declared.entry.Entry.{Entry}
 use Rattle.vch_model.specs.declared.lists.Scenario.{Scenario}
 use Rattle.vch_model.specs.Lines.{phases_in}
-use Rattle.vch_machine.specs.State.{Keyed, Living, Pool, Claim, Tally, Tasked, Machine, Message, idle, tasked, with_tasked}
+use Rattle.vch_machine.specs.State.{Claim, Tasked, Machine, idle, tasked}
 use Rattle.vch_machine.specs.Making.{on_task, on_claims}
 use Rattle.vch_machine.specs.Events.{event}
-use Rattle.vch_machine.proofs.Walks.{Walk, still_claim, event_walked}
+use Rattle.vch_machine.proofs.Walks.{Walk, event_walked}
 
 pub record Grows (m n : Machine) : Type 0 where
   pub begun : (u : ℕ) → (tasked m u).begun ≤ (tasked n u).begun

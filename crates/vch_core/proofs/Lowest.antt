@@ -1,19 +1,16 @@
 -- The lowest task with a frame.
-use Rattle.std.proofs.Common.{◌≡◌, ◌≢◌, ℕ, zero, suc, ◌+◌, ◌-◌, ◌<◌, ◌≤◌, ◌==◌, Bool, true, false, List, [], ◌∷◌, ◌++◌, refl, arith, sym, ap, ◌∙◌, length, subst, Option, Some, None}
+use Rattle.std.proofs.Common.{◌≡◌, ℕ, zero, suc, ◌+◌, ◌<◌, ◌≤◌, ◌==◌, Bool, true, false, List, [], ◌∷◌, ◌++◌, refl, arith, sym, ◌∙◌, length, subst, Some, None}
 use Rattle.std.specs.Prelude.{is_some, if◌then◌else◌}
 use Rattle.std.proofs.lemmas.Grind.{common_steps}
-use Rattle.vch_model.specs.declared.lists.Scenario.{Scenario}
-use Rattle.vch_model.specs.Lines.{is_task}
 use Rattle.vch_machine.specs.State.{Machine, tasked}
 use Rattle.vch_machine.specs.Events.{numbers}
 use Rattle.vch_machine.specs.Schedules.{lowest_open}
 use Rattle.vch_legal.proofs.AtRest.{task_of}
 use Rattle.vch_state.specs.declared.parts.Parts.{Parts}
 use Rattle.vch_state.specs.declared.frames.Working.{Working}
-use Rattle.vch_state.specs.declared.frame.Frame.{Frame}
 use Rattle.vch_state.specs.Plain.{frame_of}
 use Rattle.vch_state.specs.Reached.{Reached, Stands}
-use Rattle.vch_core.specs.Turning.{all_of, IsLowest}
+use Rattle.vch_core.specs.Turning.{IsLowest}
 use Rattle.vch_core.proofs.Framed.{reach, from_state, frame_same}
 
 -- no task below this one has a frame

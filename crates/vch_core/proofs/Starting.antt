@@ -1,17 +1,17 @@
 -- A cursor at the start of the phase that is under way.
-use Rattle.std.proofs.Common.{◌≡◌, ℕ, zero, suc, ◌+◌, ◌-◌, ◌<◌, ◌≤◌, ◌==◌, nat_lt, Bool, true, false, cond, List, [], ◌∷◌, ◌++◌, refl, arith, sym, ap, ◌∙◌, length, get_or, replicate, subst, Some}
+use Rattle.std.proofs.Common.{◌≡◌, ℕ, zero, suc, ◌+◌, ◌-◌, ◌<◌, ◌≤◌, nat_lt, Bool, true, false, cond, List, [], ◌∷◌, refl, arith, sym, ap, ◌∙◌, length, get_or, replicate, subst, Some}
 use Rattle.std.specs.Prelude.{nat_le, slice_get}
 use Rattle.std.specs.List.{filter, AllByRecursion}
 use Rattle.std.proofs.lemmas.Grind.{common_steps}
 use Rattle.vch_model.specs.declared.call.Line.{Line}
 use Rattle.vch_model.specs.declared.lists.Scenario.{Scenario}
-use Rattle.vch_model.specs.Lines.{is_task, lines_of, lines_until, phases_in}
+use Rattle.vch_model.specs.Lines.{lines_of, lines_until}
 use Rattle.vch_model.specs.Scenarios.{line_count}
 use Rattle.vch_legal.proofs.LineSums.{lines_of_tasks, all_of_tasks}
 use Rattle.vch_legal.proofs.PhaseCounts.{lines_with_phase}
 use Rattle.vch_legal.proofs.PhaseLines.{no_lines}
 use Rattle.vch_state.specs.declared.parts.Parts.{Parts}
-use Rattle.vch_state.specs.Bounds.{Limited, IsOfTask, AreOfTasks}
+use Rattle.vch_state.specs.Bounds.{IsOfTask}
 use Rattle.vch_state.specs.Reached.{Reached}
 use Rattle.vch_state.proofs.Glue.{task_number}
 use Rattle.vch_core.specs.declared.turn.Cursor.{Cursor}

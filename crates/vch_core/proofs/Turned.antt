@@ -1,26 +1,23 @@
 -- Whose turn it is can go.
-use Rattle.std.proofs.Common.{◌≡◌, ℕ, ◌<◌, Bool, true, false, List, [], ◌∷◌, length, sym, ap, ◌∙◌, refl, subst, Option, Some, None, IsTrue}
-use Rattle.std.specs.Prelude.{is_some, slice_index_or}
-use Rattle.std.specs.List.{AllByRecursion}
+use Rattle.std.proofs.Common.{◌≡◌, ℕ, ◌<◌, true, false, List, [], ◌∷◌, length, sym, ap, ◌∙◌, refl, Option, Some, None}
+use Rattle.std.specs.Prelude.{is_some}
 use Rattle.vch_base.specs.declared.kind.Kind.{Kind}
-use Rattle.vch_model.specs.declared.lists.Scenario.{Scenario}
-use Rattle.vch_model.specs.Lines.{is_task, phases_in}
+use Rattle.vch_model.specs.Lines.{is_task}
 use Rattle.vch_machine.specs.State.{Machine, tasked, is_empty}
 use Rattle.vch_machine.specs.Events.{ready}
 use Rattle.vch_machine.specs.Next.{next_kind}
-use Rattle.vch_machine.specs.Schedules.{lowest_open, first_waiting, turn_task}
+use Rattle.vch_machine.specs.Schedules.{turn_task}
 use Rattle.vch_legal.proofs.Runs.{reached_stands}
 use Rattle.vch_legal.proofs.Turns.{opened_next, lowest_none, number_of_all, all_numbers}
 use Rattle.vch_legal.proofs.AtRest.{task_of}
 use Rattle.vch_legal.proofs.ScheduleRuns.{waiting_next, resting, none_are_ready}
 use Rattle.vch_state.specs.declared.parts.Parts.{Parts}
-use Rattle.vch_state.specs.declared.frame.Frame.{Frame}
 use Rattle.vch_state.specs.Plain.{frame_of}
 use Rattle.vch_state.specs.Reached.{Reached, Stands}
 use Rattle.vch_state.proofs.NextKinds.{next_agrees}
 use Rattle.vch_create.specs.Called.{HasNext}
 use Rattle.vch_core.specs.Turning.{all_of, IsTurn, IsLowest, IsWaiting, IsTaskOrNone, OfFrame, IsResting, CanGo}
-use Rattle.vch_core.proofs.Framed.{Reach, reach, from_state, frame_same, is_there}
+use Rattle.vch_core.proofs.Framed.{Reach, reach, frame_same, is_there}
 
 -- all states that the parts stand for have the same next event of a task
 same_next : (p : Parts) (t : ℕ) (m n : Machine) → is_task p.scenario t ≡ true → Stands p m → Stands p n → next_kind p.scenario n t ≡ next_kind p.scenario m t
@@ -55,11 +52,14 @@ some_false (Some k) e = absurd (cc)
 
 pub waiting_can : (p : Parts) (choice : Option ℕ) → Reached p → p.phase < length p.scenario.phases → IsLowest p None → IsWaiting p choice → IsTaskOrNone p choice → CanGo p choice
 unfolding IsLowest IsWaiting IsResting
-waiting_can p None r left l w o = (left, λ n b. empty_is (ready p.scenario n (all_of p.scenario)) (none_are_ready p.scenario n (all_of p.scenario)
-    (all_numbers (λ t. is_some (next_kind p.scenario n t) ≡ false) (length p.scenario.flags)
-    (λ t a c. ap is_some (same_next p t x.m n (task_of p.scenario t a c) x.state b)
-    ∙ resting p.scenario x.m t (reached_stands p.scenario x.moves x.m x.run) (task_of p.scenario t a c)
-    (number_of_all (λ u. is_some (tasked x.m u).frame ≡ false) (length p.scenario.flags) (lowest_none x.m (all_of p.scenario) (l x.m x.state)) t a c) (w x.m x.state)))))
+waiting_can p None r left l w o = (
+  left,
+  λ n b. empty_is (ready p.scenario n (all_of p.scenario)) (none_are_ready p.scenario n (all_of p.scenario)
+      (all_numbers (λ t. is_some (next_kind p.scenario n t) ≡ false) (length p.scenario.flags)
+      (λ t a c. ap is_some (same_next p t x.m n (task_of p.scenario t a c) x.state b)
+      ∙ resting p.scenario x.m t (reached_stands p.scenario x.moves x.m x.run) (task_of p.scenario t a c)
+      (number_of_all (λ u. is_some (tasked x.m u).frame ≡ false) (length p.scenario.flags) (lowest_none x.m (all_of p.scenario) (l x.m x.state)) t a c) (w x.m x.state)))),
+)
   where
     x : Reach p
     x = reach p r

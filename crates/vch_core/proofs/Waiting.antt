@@ -1,23 +1,21 @@
 -- The first line of the phase that was not begun, found with a cursor.
-use Rattle.std.proofs.Common.{◌≡◌, ◌≢◌, ℕ, zero, suc, ◌+◌, ◌-◌, ◌<◌, ◌≤◌, ◌==◌, Bool, true, false, List, [], ◌∷◌, ◌++◌, refl, arith, sym, ap, ◌∙◌, length, length-append, get_or, subst, Option, Some, None}
-use Rattle.std.specs.Prelude.{if◌then◌else◌, nat_lt, slice_get}
+use Rattle.std.proofs.Common.{◌≡◌, ℕ, zero, suc, ◌+◌, ◌-◌, ◌<◌, ◌≤◌, ◌==◌, true, false, List, [], ◌∷◌, ◌++◌, refl, arith, sym, ap, ◌∙◌, length, length-append, get_or, subst, Some, None}
+use Rattle.std.specs.Prelude.{nat_lt, slice_get}
 use Rattle.std.specs.List.{count_by, AllByRecursion}
 use Rattle.std.proofs.Math.ListN.{set}
 use Rattle.std.proofs.lemmas.List.{length-set}
 use Rattle.std.proofs.lemmas.Grind.{common_steps}
-use Rattle.vch_base.specs.declared.key.Key.TheVariants as keys
 use Rattle.vch_model.specs.declared.call.Line.{Line}
 use Rattle.vch_model.specs.declared.lists.Scenario.{Scenario}
-use Rattle.vch_model.specs.Lines.{is_task, phases_in, lines_until}
+use Rattle.vch_model.specs.Lines.{is_task, phases_in}
 use Rattle.vch_machine.specs.State.{Machine, tasked}
 use Rattle.vch_machine.specs.Schedules.{first_waiting}
 use Rattle.vch_legal.proofs.AtRest.{task_of}
 use Rattle.vch_state.specs.declared.parts.Parts.{Parts}
 use Rattle.vch_state.specs.declared.frames.Working.{Working}
-use Rattle.vch_state.specs.Plain.{begun_of, part_of}
-use Rattle.vch_state.specs.Bounds.{Limited, IsOfTask, AreOfTasks}
-use Rattle.vch_state.specs.Stands.{StandsFor}
-use Rattle.vch_state.specs.Reached.{Reached, Stands, plain_of}
+use Rattle.vch_state.specs.Plain.{begun_of}
+use Rattle.vch_state.specs.Bounds.{IsOfTask, AreOfTasks}
+use Rattle.vch_state.specs.Reached.{Reached, Stands}
 use Rattle.vch_core.specs.declared.turn.Cursor.{Cursor}
 use Rattle.vch_core.specs.Turning.{IsWaiting, AreBegun, IsCursor, seen_after, lines_before, current_lines}
 use Rattle.vch_legal.specs.Facts.{bit}
@@ -55,7 +53,7 @@ waiting_from : (p : Parts) (cursor : Cursor) (m : Machine) (c : IsCursor p curso
 waiting_from p cursor m c s =
     let e : p.phase ≡ phases_in m.past = same_phase p m s in
     let of : AllByRecursion (IsOfTask (length p.scenario.flags)) (c.passed_lines ++ c.rest) =
-        subst (AllByRecursion (IsOfTask (length p.scenario.flags))) c.lines (phase_of_tasks (length p.scenario.flags) p.scenario.phases p.phase (from_state p m s).0.lines) in
+    subst (AllByRecursion (IsOfTask (length p.scenario.flags))) c.lines (phase_of_tasks (length p.scenario.flags) p.scenario.phases p.phase (from_state p m s).0.lines) in
     let b : AreBegun p.scenario (phases_in m.past) p.frames [] c.passed_lines = subst (λ n. AreBegun p.scenario n p.frames [] c.passed_lines) e c.begun in
     ap (λ n. first_waiting p.scenario m [] (get_or p.scenario.phases n [])) (sym e) ∙ ap (first_waiting p.scenario m []) c.lines ∙ passes p m [] c.passed_lines c.rest s of b
 
@@ -161,7 +159,7 @@ passes_line p cursor c x a o l = record {
       let e : get_or (set cursor.passed (x.task - 1) (get_or cursor.passed (x.task - 1) 0 + 1)) (t - 1) 0 ≡ get_or cursor.passed (t - 1) 0 + bit (x.task == t) = set_count cursor.passed t x.task n.0 o.positive (omega (arith, q0, q1, q2)) in
       let f : get_or cursor.passed (t - 1) 0 ≡ lines_before p.scenario p.phase (seen_after [] c.passed_lines) t = c.passed t task in
       let g : count_by (λ u. u == t) (seen_after [] (c.passed_lines ++ x ∷ [])) ≡ bit (x.task == t) + count_by (λ u. u == t) (seen_after [] c.passed_lines) =
-          ap (count_by (λ u. u == t)) (seen_snoc [] c.passed_lines x) ∙ count_cons t x.task (seen_after [] c.passed_lines) in
+      ap (count_by (λ u. u == t)) (seen_snoc [] c.passed_lines x) ∙ count_cons t x.task (seen_after [] c.passed_lines) in
       omega (arith, e, f, g);
 }
 

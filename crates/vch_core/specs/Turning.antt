@@ -1,11 +1,11 @@
 -- How the next move of a schedule is found and made.
-use Rattle.std.specs.Prelude.{◌≡◌, ◌<◌, ◌≤◌, ◌+◌, ◌-◌, ℕ, ◌==◌, true, Bool, IsTrue, List, [], ◌∷◌, ◌++◌, length, slice_index_or, Option, Some, None, IsSome}
+use Rattle.std.specs.Prelude.{◌≡◌, ◌<◌, ◌+◌, ◌-◌, ℕ, ◌==◌, true, Bool, List, [], ◌∷◌, ◌++◌, length, slice_index_or, Option, Some, None, IsSome}
 use Rattle.std.specs.List.{count_by, AllByRecursion}
 use Rattle.vch_model.specs.declared.call.Line.{Line}
 use Rattle.vch_model.specs.declared.lists.Scenario.{Scenario}
 use Rattle.vch_model.specs.Lines.{is_task, lines_until, phases_in}
 use Rattle.vch_machine.specs.State.{Machine}
-use Rattle.vch_machine.specs.Events.{phase_event, numbers, ready}
+use Rattle.vch_machine.specs.Events.{numbers, ready}
 use Rattle.vch_machine.specs.Schedules.{happens, move_of, lowest_open, first_waiting, turn_task, picked, seed_after}
 use Rattle.vch_legal.specs.Facts.{times}
 use Rattle.vch_state.specs.declared.parts.Parts.{Parts}

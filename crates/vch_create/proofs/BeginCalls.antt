@@ -1,15 +1,13 @@
 -- A call that a core can run, where a Begin is next: a create or a drop.
-use Rattle.std.proofs.Common.{◌≡◌, ℕ, ◌+◌, ◌-◌, ◌<◌, ◌≤◌, nat_lt, Bool, true, false, cond, List, refl, arith, sym, ap, ◌∙◌, subst, Option, Some, None, Fits, w32}
+use Rattle.std.proofs.Common.{◌≡◌, ℕ, ◌+◌, ◌-◌, ◌<◌, nat_lt, Bool, true, false, cond, refl, arith, sym, ap, ◌∙◌, Option, Some, None, Fits, w32}
 use Rattle.std.specs.Prelude.{slice_get}
 use Rattle.std.proofs.lemmas.Grind.{common_steps}
-use Rattle.vch_base.specs.declared.key.Key.TheVariants as keys
 use Rattle.vch_base.specs.declared.kind.Kind.TheVariants as kinds
 use Rattle.vch_model.specs.declared.call.Call.{Call}
 use Rattle.vch_model.specs.declared.call.Call.TheVariants as calls
 use Rattle.vch_model.specs.declared.call.Line.{Line}
-use Rattle.vch_model.specs.declared.lists.Scenario.{Scenario}
 use Rattle.vch_model.specs.Lines.{is_task, lines_of, lines_until, phases_in}
-use Rattle.vch_machine.specs.State.{Machine, Tasked, tasked}
+use Rattle.vch_machine.specs.State.{tasked}
 use Rattle.vch_machine.specs.Next.{call_in, nth_call, task_next}
 use Rattle.vch_state.specs.declared.parts.Parts.{Parts}
 use Rattle.vch_state.specs.Plain.{frame_of, begun_of}
@@ -17,7 +15,6 @@ use Rattle.vch_state.specs.Reached.{Reached, IsNext}
 use Rattle.vch_model.specs.UserOnly.{IsUserCall, IsUserOnly}
 use Rattle.vch_state.proofs.CallsFound.{no_more}
 use Rattle.vch_create.specs.Begins.{demand_of}
-use Rattle.vch_create.specs.declared.begin.Demand.{Demand}
 use Rattle.vch_create.specs.declared.begin.Demand.TheVariants as of
 use Rattle.vch_create.proofs.BeginEvent.{begin_few, twin_is, number_is, kind_is}
 use Rattle.vch_create.proofs.CallsUser.{user_call}
@@ -60,7 +57,7 @@ module _ (p : Parts) (t : ℕ) (task : is_task p.scenario t ≡ true) (r : Reach
         let s = (state_of p m st).1 in
         let b : (tasked m t).begun ≡ begun_of p.frames t = sym (number_is p t task r next idle m st s) in
         let k : cond (nat_lt (tasked m t).begun (lines_until p.scenario (phases_in m.past + 1) t)) (Some kinds.Begin) None ≡ Some kinds.Begin =
-            sym (ap (λ o. task_next p.scenario (phases_in m.past) t (tasked m t) o) (twin_is p t task r next idle m st s)) ∙ kind_is p t task r next idle m st s in
+        sym (ap (λ o. task_next p.scenario (phases_in m.past) t (tasked m t) o) (twin_is p t task r next idle m st s)) ∙ kind_is p t task r next idle m st s in
         let l : (tasked m t).begun < lines_until p.scenario (phases_in m.past + 1) t = below (tasked m t).begun (lines_until p.scenario (phases_in m.past + 1) t) (more_calls _ k) in
         no_more p.scenario t (tasked m t).begun (phases_in m.past + 1)
         (ap (slice_get (lines_of p.scenario t)) (b ∙ sym (next_place (begun_of p.frames t))) ∙ no_line (slice_get (lines_of p.scenario t) ((begun_of p.frames t + 1) - 1)) none) l)

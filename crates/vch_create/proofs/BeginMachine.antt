@@ -38,7 +38,6 @@ module _ (sc : Scenario) (m : Machine) (t : ℕ) where
       (ap (λ (x : Tasked). set (set m.tasks (t - 1) (begun_one (tasked m t))) (t - 1) (record x { frame = g })) (begun_here inside)
       ∙ set-set m.tasks (t - 1) (begun_one (tasked m t)) (record (tasked m t) { begun = (tasked m t).begun + 1; frame = g }))
 
-
   -- the store's reply to a create that needs no frame
   pub answered : (bytes : List ℕ) → is_answered (length bytes) ≡ true → store_reply sc m t (calls.Create bytes) ≡ answer (length bytes)
   unfolding create

@@ -8,14 +8,13 @@ use Rattle.vch_model.specs.declared.call.Call.{Call}
 use Rattle.vch_model.specs.declared.call.Call.TheVariants as calls
 use Rattle.vch_model.specs.Legal.{asks}
 use Rattle.vch_model.specs.Lines.{is_task, lines_until}
-use Rattle.vch_machine.specs.State.{Machine}
 use Rattle.vch_machine.specs.Next.{next_kind, nth_call}
 use Rattle.vch_state.specs.declared.frame.Frame.{Frame}
 use Rattle.vch_state.specs.declared.parts.Parts.{Parts}
 use Rattle.vch_state.specs.Plain.{SlotName, names_of, working_of, frame_of}
 use Rattle.vch_state.specs.Shape.{Indices}
 use Rattle.vch_state.specs.Nexts.{known_slot, record_kind, forming_kind, first_kind, task_kind}
-use Rattle.vch_state.specs.Reached.{Reached, Stands, IsNext, value_kind}
+use Rattle.vch_state.specs.Reached.{Reached, IsNext, value_kind}
 use Rattle.vch_state.proofs.NextKinds.{next_agrees}
 use Rattle.vch_create.specs.Called.{HasNext, IsOfCall}
 use Rattle.vch_create.proofs.WorkNext.{reached_state, next_in}

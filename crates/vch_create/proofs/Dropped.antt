@@ -213,7 +213,7 @@ module _ (sc : Scenario) (k : Key) (c : Plain) (m : Machine) (t : ℕ) (positive
   knows : (a : SlotName) (w : Handles) (n : Known a w) → is_known mid w ≡ not (is_some given.orphan)
   knows a w n =
       all_know c w a.slot tests (set c.tasks (t - 1) x) (set m.tasks (t - 1) y_before)
-        (keeps_set c c.tasks m.tasks (t - 1) x y_before (keeps_of sc c m s.shape) (record { names = names_then; queue = z.queue }))
+      (keeps_set c c.tasks m.tasks (t - 1) x y_before (keeps_of sc c m s.shape) (record { names = names_then; queue = z.queue }))
       ∙ ap (λ i. nat_lt 0 i) (sym (fits_table.refs a.slot))
       ∙ still_live c new a.slot (cond (a.references == 1) 1 0) given.orphan n.ends w n.map
     where
@@ -234,8 +234,8 @@ module _ (sc : Scenario) (k : Key) (c : Plain) (m : Machine) (t : ℕ) (positive
   let_both = cases _
       (λ n. subst (Pairwise (IsLet new_parts) (orphan_items given.orphan)) (sym (orphaned_none n)) (subst (λ o. Pairwise (IsLet new_parts) (orphan_items o) []) (sym n.orphan) tt))
       (λ a w n. subst (Pairwise (IsLet new_parts) (orphan_items given.orphan)) (sym (orphaned_is a w n))
-          (by_orphan c new a.slot (cond (a.references == 1) 1 0) given.orphan n.ends w n.map (λ o. Pairwise (IsLet new_parts) (orphan_items o) (left w o)) tt
-          (items_lets new_parts n.ends.cell.indices w (cell_map c new a.slot (cond (a.references == 1) 1 0) given.orphan n.ends w n.map))))
+      (by_orphan c new a.slot (cond (a.references == 1) 1 0) given.orphan n.ends w n.map (λ o. Pairwise (IsLet new_parts) (orphan_items o) (left w o)) tt
+      (items_lets new_parts n.ends.cell.indices w (cell_map c new a.slot (cond (a.references == 1) 1 0) given.orphan n.ends w n.map))))
 
   new_frame : IsFrame new_parts (nth_call sc t y.begun) F G
   new_frame = record {

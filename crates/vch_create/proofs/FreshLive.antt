@@ -140,7 +140,7 @@ living_new m k slots free numbers x h n is_free is there dead living i = elim (c
         let b : live_at (slots_with slots free (new_live x)) h ≡ Some (new_live x) = ap (live_at (slots_with slots free (new_live x))) is ∙ live_new slots free (new_live x) is_free in
         let d : living_at (m.live ++ l ∷ []) (record { key = k; handle = h }) ≡ Some l = append_here m.live l dead in
         subst (λ j. IsLiving (number_at (set numbers h n) j) (live_at (slots_with slots free (new_live x)) j) (living_at (m.live ++ l ∷ []) (record { key = k; handle = j }))) (sym e)
-            (subst (λ o. IsLiving (number_at (set numbers h n) h) (live_at (slots_with slots free (new_live x)) h) o) (sym d) (subst (λ o. IsLiving (number_at (set numbers h n) h) o (Some l)) (sym b) (refl, a)))
+        (subst (λ o. IsLiving (number_at (set numbers h n) h) (live_at (slots_with slots free (new_live x)) h) o) (sym d) (subst (λ o. IsLiving (number_at (set numbers h n) h) o (Some l)) (sym b) (refl, a)))
 
     other : i ≢ h → IsLiving (number_at (set numbers h n) i) (live_at (slots_with slots free (new_live x)) i) (living_at (m.live ++ record { place = record { key = k; handle = h }; value = x; made = n } ∷ []) (record { key = k; handle = i }))
     other e =
@@ -148,7 +148,7 @@ living_new m k slots free numbers x h n is_free is there dead living i = elim (c
         let b : live_at (slots_with slots free (new_live x)) i ≡ live_at slots i = live_old slots free (new_live x) i (λ q. e (q ∙ sym is)) in
         let d : living_at (m.live ++ l ∷ []) (record { key = k; handle = i }) ≡ living_at m.live (record { key = k; handle = i }) = append_other m.live l (record { key = k; handle = i }) (same_at k h i e) in
         subst (λ o. IsLiving (number_at (set numbers h n) i) (live_at (slots_with slots free (new_live x)) i) o) (sym d) (subst (λ o. IsLiving (number_at (set numbers h n) i) o (living_at m.live (record { key = k; handle = i }))) (sym b)
-            (subst (λ j. IsLiving j (live_at slots i) (living_at m.live (record { key = k; handle = i }))) (sym a) (living i)))
+        (subst (λ j. IsLiving j (live_at slots i) (living_at m.live (record { key = k; handle = i }))) (sym a) (living i)))
 
 -- a fresh value has the content that the record stores
 pub stored : (t command : ℕ) (previous : Option Value) (content : List ℕ) (x : Value) → answer_to keys.User t command previous content ≡ Ok (Some x) → (previous ≡ Some x → ⊥) → x ≡ values.User content

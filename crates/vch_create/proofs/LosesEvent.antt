@@ -150,8 +150,11 @@ module _ (p : Parts) (t : ℕ) (task : is_task p.scenario t ≡ true) (next : Is
                   subst (λ n. Stands new_parts n) (sym same) (st.0, lost_then (happens ∙ ap Some same))
 
         pub is_loss : IsLoss t p new_parts
-        is_loss = record { scenario = refl; stands = λ m st f2 a w2 b call2 d happens.
-            asking p t task next idle _ reached (λ f4 v bytes r rest z. by f4 v bytes r rest (same_frame (frame_of p.frames t) f4 f z.own own) z m st f2 a w2 b call2 d happens) }
+        is_loss = record {
+          scenario = refl;
+          stands = λ m st f2 a w2 b call2 d happens.
+              asking p t task next idle _ reached (λ f4 v bytes r rest z. by f4 v bytes r rest (same_frame (frame_of p.frames t) f4 f z.own own) z m st f2 a w2 b call2 d happens);
+        }
           where
             by : (f4 : Frame) (v : Indices) (bytes : List ℕ) (r : Recipe) (rest : List ℕ) → f4 ≡ f → IsAsking p t f4 v bytes r rest
                 → (m : Machine) → Stands p m → (f2 : machine.Frame) → (tasked m t).frame ≡ Some f2 → (w2 : Handles) → f2.forming ≡ Some w2 → (call2 : Call) → current p.scenario m t ≡ Some call2

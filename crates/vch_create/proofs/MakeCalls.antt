@@ -132,10 +132,12 @@ module _ (p : Parts) (t : ℕ) (task : is_task p.scenario t ≡ true) (next : Is
         gives m st = asking p t task next idle _ reached (λ f v bytes r rest z. makes_seen p t task next idle m _ st f v bytes r rest z (λ g w y.
             let a = is f v bytes r rest z.own z.forms z.call z.first in
             let b : nth_call p.scenario t q.begun ≡ Some (calls.Create bytes) = ap (nth_call p.scenario t) a.2 ∙ z.call in
-            let d : content ≡ r.content = read bytes r rest b (ap (λ i. first_of (drop i bytes)) a.3 ∙ z.first) in
-            (reply p t task next idle f v bytes r rest z m st g w y, asked_is p t task next idle f v bytes r rest z m st g w y,
-            subst (λ o. value_calls.Makes p.user o result kept2) (same a.0 a.1 d ∙ reply_is p t task next idle f v bytes r rest z m st g w y rules) makes,
-            stands (picture_of keys.User (plain_of p) m) (flights_are p m st ∙ sym (count ∙ ap (λ n. length (receipts_in keys.User (take n p.frames))) all)) (state_of p m st).1.keyed.0.counts)))
+            let d : content ≡ r.content = read bytes r rest b (ap (λ i. first_of (drop i bytes)) a.3 ∙ z.first) in (
+              reply p t task next idle f v bytes r rest z m st g w y,
+              asked_is p t task next idle f v bytes r rest z m st g w y,
+              subst (λ o. value_calls.Makes p.user o result kept2) (same a.0 a.1 d ∙ reply_is p t task next idle f v bytes r rest z m st g w y rules) makes,
+              stands (picture_of keys.User (plain_of p) m) (flights_are p m st ∙ sym (count ∙ ap (λ n. length (receipts_in keys.User (take n p.frames))) all)) (state_of p m st).1.keyed.0.counts,
+            )))
           where
             same : {command : ℕ} {previous : Option ℕ} {other : List ℕ} → q.command ≡ command → q.previous ≡ previous → content ≡ other
                 → answer p.user.rules t q.command (managers.previous_of p.user.slots (previous_handle p.user_entries.slots q.previous)) content ≡ answer p.user.rules t command (managers.previous_of p.user.slots (previous_handle p.user_entries.slots previous)) other

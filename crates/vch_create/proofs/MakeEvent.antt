@@ -130,7 +130,7 @@ module _ (p : Parts) (t : ℕ) (task : is_task p.scenario t ≡ true) (next : Is
           let i = nothing_is p.user q.user b.0 b.2 in
           let r : IsRoomier p q = asked_roomier p q t (Ok made.Nothing) a i.1 in
           let happens : event p.scenario false m t ≡ Some (make_done m t (gives.G p t task next idle_ x v bytes rec rest z m st g w y) w (calls.Create bytes) keys.User (Ok None)) =
-              gives.answered p t task next idle_ x v bytes rec rest z m st g w y (Ok None) (subst (IsAsked p m t) i.0 b.1) in (
+          gives.answered p t task next idle_ x v bytes rec rest z m st g w y (Ok None) (subst (IsAsked p m t) i.0 b.1) in (
             make_done m t (gives.G p t task next idle_ x v bytes rec rest z m st g w y) w (calls.Create bytes) keys.User (Ok None),
             happens,
             gives.kind_is p t task next idle_ x v bytes rec rest z m st g w y,

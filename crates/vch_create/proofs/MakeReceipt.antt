@@ -157,20 +157,26 @@ module _ (p : Parts) (t : ℕ) (task : is_task p.scenario t ≡ true) (next : Is
           let sm : StandsFor p.scenario (keys.User ∷ []) (plain_of p) m = (state_of p m st).1 in
           let same_slots : k2.slots ≡ set p.user.slots receipt.handle (more_made (live_at p.user.slots receipt.handle)) = i.handed.1.1 in
           let found : handle_of m.live keys.User x ≡ Some receipt.handle =
-              found_handle (number_at p.made.user receipt.handle) p.scenario m keys.User (live_at p.user.slots receipt.handle) x receipt.handle sm.fits (sm.keyed.0.living receipt.handle) i.handed.1.0 in
+          found_handle (number_at p.made.user receipt.handle) p.scenario m keys.User (live_at p.user.slots receipt.handle) x receipt.handle sm.fits (sm.keyed.0.living receipt.handle) i.handed.1.0 in
           let n : Machine = given_receipt m t (gives.G p t task next idle_ f v bytes r rest z m st g w y) (record { key = keys.User; handle = receipt.handle }) in
           let happens : event p.scenario false m t ≡ Some n =
-              gives.answered p t task next idle_ f v bytes r rest z m st g w y (Ok (Some x)) (subst (IsAsked p m t) i.is b.1) ∙ ap (λ o. Some (made_at m t (gives.G p t task next idle_ f v bytes r rest z m st g w y) keys.User x o)) found in
+          gives.answered p t task next idle_ f v bytes r rest z m st g w y (Ok (Some x)) (subst (IsAsked p m t) i.is b.1) ∙ ap (λ o. Some (made_at m t (gives.G p t task next idle_ f v bytes r rest z m st g w y) keys.User x o)) found in
           let taken : count_by is_taken k2.slots ≡ count_by is_taken p.user.slots = ap (count_by is_taken) same_slots ∙ count_again p.user.slots receipt.handle in
           let long : length k2.slots ≡ length p.user.slots = ap length same_slots ∙ length-set p.user.slots receipt.handle (more_made (live_at p.user.slots receipt.handle)) in
-          let owes : count_by is_taken p.user.slots + 0 + in_all (unanswered_in p.scenario) m + (length p.scenario.phases - p.phase) ≤ p.history.spare = sm.room in
-          (n, happens, gives.kind_is p t task next idle_ f v bytes r rest z m st g w y,
-          ((state_of p m st).0, after_stands m st v bytes r rest z g w y p.history p.made n a.slots b.3 refl refl
-              (λ j. subst (λ xs. IsLiving (number_at p.made.user j) (live_at xs j) (living_at m.live (record { key = keys.User; handle = j }))) (sym same_slots)
-              (live_again (λ o. IsLiving (number_at p.made.user j) o (living_at m.live (record { key = keys.User; handle = j }))) p.user.slots receipt.handle j (λ o l. living_again (number_at p.made.user j) (living_at m.live (record { key = keys.User; handle = j })) o l) (sm.keyed.0.living j)))
-              (i.handed.1.2 ∙ sm.keyed.0.free) (long ∙ sm.keyed.0.used) i.rest (one_more (of_key keys.User m.pools).used) sm.history refl (one_more (length m.past))
-              (room_same (count_by is_taken k2.slots) (count_by is_taken p.user.slots) (in_all (unanswered_in p.scenario) m) (length p.scenario.phases - p.phase) p.history.spare taken owes)
-              (event_keeps p.scenario false t m n sm.fits happens)))))
+          let owes : count_by is_taken p.user.slots + 0 + in_all (unanswered_in p.scenario) m + (length p.scenario.phases - p.phase) ≤ p.history.spare = sm.room in (
+            n,
+            happens,
+            gives.kind_is p t task next idle_ f v bytes r rest z m st g w y,
+            (
+              (state_of p m st).0,
+              after_stands m st v bytes r rest z g w y p.history p.made n a.slots b.3 refl refl
+                  (λ j. subst (λ xs. IsLiving (number_at p.made.user j) (live_at xs j) (living_at m.live (record { key = keys.User; handle = j }))) (sym same_slots)
+                  (live_again (λ o. IsLiving (number_at p.made.user j) o (living_at m.live (record { key = keys.User; handle = j }))) p.user.slots receipt.handle j (λ o l. living_again (number_at p.made.user j) (living_at m.live (record { key = keys.User; handle = j })) o l) (sm.keyed.0.living j)))
+                  (i.handed.1.2 ∙ sm.keyed.0.free) (long ∙ sm.keyed.0.used) i.rest (one_more (of_key keys.User m.pools).used) sm.history refl (one_more (length m.past))
+                  (room_same (count_by is_taken k2.slots) (count_by is_taken p.user.slots) (in_all (unanswered_in p.scenario) m) (length p.scenario.phases - p.phase) p.history.spare taken owes)
+                  (event_keeps p.scenario false t m n sm.fits happens),
+            ),
+          )))
         where
           one_more : (n : ℕ) → n ≤ n + 1
           one_more n = omega arith
@@ -314,7 +320,7 @@ module _ (p : Parts) (t : ℕ) (task : is_task p.scenario t ≡ true) (next : Is
         let is_noted : n ≡ noted = subst Notes a.others o in
         let d : Gives noted = subst Gives is_noted g in
         subst (MayFollow kinds.Make t p) (sym (at f z.own d)) (fresh_follows p t task next idle_ reached f z.own q.user_entries q.user receipt _ refl entry n.history has_room is_entry b
-            (pushed ∙ ap (λ (x : Parts). x.history.entries ++ entry ∷ []) a.others) (less ∙ ap (λ (x : Parts). x.history.spare) a.others)))
+        (pushed ∙ ap (λ (x : Parts). x.history.entries ++ entry ∷ []) a.others) (less ∙ ap (λ (x : Parts). x.history.spare) a.others)))
       where
         at : (f : Frame) → frame_of p.frames t ≡ Some f → Gives noted → new ≡ record noted { frames = with_frame_of (with_frame_of p.frames t None) t (Some (record f { receipt = Some (record { key = keys.User; receipt = receipt }) })) }
         at f own d = let e : IfSome (Some f) (λ f. new ≡ record noted { frames = with_frame_of (with_frame_of p.frames t None) t (Some (record f { receipt = Some (record { key = keys.User; receipt = receipt }) })) }) =

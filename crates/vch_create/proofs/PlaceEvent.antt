@@ -129,10 +129,13 @@ module _ (p : Parts) (t : ℕ) (task : is_task p.scenario t ≡ true) (next : Is
       wanted_follows new code six refused = let refusal : IsRefusal t (pos 6) reserved new = subst (λ n. IsRefusal t n reserved new) six refused in record {
         scenario = refusal.scenario;
         want = true;
-        event = λ m st. seen p t f u task idle own forms m _ st.1 (λ g v bytes e z.
-            (refuse m t (forming_machine v g.at_byte g.keys) (calls.Create bytes) (pos 6), happens true m st g v bytes e z, place_kind m st,
-            subst (λ sc. IsState sc (plain_of new) (refuse m t (forming_machine v g.at_byte g.keys) (calls.Create bytes) (pos 6))) refusal.scenario
-            (refusal.stands m (subst (λ c. IsState p.scenario c m) (sym reserved_plain) st) (forming_machine v g.at_byte g.keys) (e ∙ ap Some z.twin) (calls.Create bytes) z.create)));
+        event = λ m st. seen p t f u task idle own forms m _ st.1 (λ g v bytes e z. (
+          refuse m t (forming_machine v g.at_byte g.keys) (calls.Create bytes) (pos 6),
+          happens true m st g v bytes e z,
+          place_kind m st,
+          subst (λ sc. IsState sc (plain_of new) (refuse m t (forming_machine v g.at_byte g.keys) (calls.Create bytes) (pos 6))) refusal.scenario
+              (refusal.stands m (subst (λ c. IsState p.scenario c m) (sym reserved_plain) st) (forming_machine v g.at_byte g.keys) (e ∙ ap Some z.twin) (calls.Create bytes) z.create),
+        ));
       }
 
     -- the voucher has its name

@@ -53,10 +53,11 @@ no_lets c (p ∷ ps) e = absurd e
 -- the machine's frame is so too
 pub quiet_twin : (c : Plain) (call : Option Call) (f : Frame) (g : machine.Frame) → IsFrame c call f g → value_kind (Some f) ≡ None → (g.receipt ≡ None) × (g.claim ≡ None) × (g.lets ≡ [])
 quiet_twin c call f g r idle =
-    let q : (f.receipt ≡ None) × (f.claim ≡ Claiming.Nothing) × (f.lets ≡ []) = quiet f idle in
-    (no_receipt g.receipt (subst (λ o. Optional IsReceipt o g.receipt) q.0 r.receipt),
-    no_claim c g.claim (subst (λ x. IsClaim c x g.claim) q.1 r.claim),
-    no_lets c g.lets (subst (λ ls. Pairwise (IsLet c) ls g.lets) q.2 r.lets))
+    let q : (f.receipt ≡ None) × (f.claim ≡ Claiming.Nothing) × (f.lets ≡ []) = quiet f idle in (
+      no_receipt g.receipt (subst (λ o. Optional IsReceipt o g.receipt) q.0 r.receipt),
+      no_claim c g.claim (subst (λ x. IsClaim c x g.claim) q.1 r.claim),
+      no_lets c g.lets (subst (λ ls. Pairwise (IsLet c) ls g.lets) q.2 r.lets),
+    )
 
 -- both frames, and the create whose voucher they form
 pub record Forming (c : Plain) (call : Option Call) (f : Frame) (g : machine.Frame) (v : Indices) (w : Handles) (bytes : List ℕ) : Type 0 where

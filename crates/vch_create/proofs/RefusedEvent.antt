@@ -97,7 +97,10 @@ module _ (p : Parts) (t : ℕ) (f : Frame) (v : Indices) (task : is_task p.scena
     unfolding IsState
     refuse_is = record {
       scenario = refl;
-      stands = λ m st g e call create. (st.0, seen m _ st.1 (λ h w bytes q z.
-          subst (λ (u : machine.Frame). StandsFor p.scenario (keys.User ∷ []) (plain_of new) (refuse m t u call code.number)) (sym z.twin ∙ same_frame (tasked m t).frame g h e q)
-          (subst (λ u. StandsFor p.scenario (keys.User ∷ []) (plain_of new) (refuse m t (forming_machine w h.at_byte h.keys) u code.number)) (same_call (current p.scenario m t) call (calls.Create bytes) create z.create) (stands_then m st.1 h w bytes q z))));
+      stands = λ m st g e call create. (
+        st.0,
+        seen m _ st.1 (λ h w bytes q z.
+            subst (λ (u : machine.Frame). StandsFor p.scenario (keys.User ∷ []) (plain_of new) (refuse m t u call code.number)) (sym z.twin ∙ same_frame (tasked m t).frame g h e q)
+            (subst (λ u. StandsFor p.scenario (keys.User ∷ []) (plain_of new) (refuse m t (forming_machine w h.at_byte h.keys) u code.number)) (same_call (current p.scenario m t) call (calls.Create bytes) create z.create) (stands_then m st.1 h w bytes q z))),
+      );
     }

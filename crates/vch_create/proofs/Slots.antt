@@ -45,6 +45,6 @@ module _ {T : Type 0} (f : Option T → List ℕ) (none : f None ≡ []) where
         let a : count h (flat_map f new) ≡ count h (f (slot_at old 0)) + count h (flat_map f (rest new)) = parts new ∙ ap (λ p. count h (f p) + count h (flat_map f (rest new))) (w.others 0 (first_other i)) in
         let b : count h (flat_map f old) ≡ count h (f (slot_at old 0)) + count h (flat_map f (rest old)) = parts old in
         let d : count h (flat_map f (rest new)) + count h (f (slot_at (rest old) i)) ≡ count h (flat_map f (rest old)) + count h (f o) =
-            written (rest old) (rest new) i o (record { here = rest_at new i ∙ w.here; others = λ j n. rest_at new j ∙ w.others (suc j) (next_other j i n) ∙ sym (rest_at old j) }) in
+        written (rest old) (rest new) i o (record { here = rest_at new i ∙ w.here; others = λ j n. rest_at new j ∙ w.others (suc j) (next_other j i n) ∙ sym (rest_at old j) }) in
         let e : count h (f (slot_at (rest old) i)) ≡ count h (f (slot_at old (suc i))) = ap (λ p. count h (f p)) (rest_at old i) in
         omega (arith, a, b, d, e)

@@ -139,7 +139,7 @@ module _ (c : Plain) (new : List (Option Cell)) (s n : ℕ) (orphan : Option Ind
   pub less_holds : (k : Key) (h : ℕ) → count h (out k orphan) + count h (flat_map (cell_holds c k) new) ≡ count h (flat_map (cell_holds c k) c.table)
   less_holds k h =
       let a : count h (flat_map (cell_holds c k) new) + count h (cell_holds c k (slot_at c.table s)) ≡ count h (flat_map (cell_holds c k) c.table) + count h (cell_holds c k (slot_at new s)) =
-          written (cell_holds c k) refl h c.table new s (slot_at new s) (record { here = refl; others = e.others }) in
+      written (cell_holds c k) refl h c.table new s (slot_at new s) (record { here = refl; others = e.others }) in
       let b : count h (cell_holds c k (slot_at c.table s)) ≡ count h (listed (of_key k v)) = ap (λ o. count h (cell_holds c k o)) e.there ∙ ap (count h) (holds k) in
       let d : count h (out k orphan) + count h (cell_holds c k (slot_at new s)) ≡ count h (listed (of_key k v)) = by (slot_at new s) e.left in
       omega (arith, a, b, d)

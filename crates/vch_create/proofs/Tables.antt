@@ -117,7 +117,7 @@ module _ (c : Plain) (u : Indices) (v : Handles) (map : IsMap c u v) (new : List
   pub put_holds : (k : Key) (h : ℕ) → count h (flat_map (cell_holds c k) new) + count h (cell_holds c k (slot_at c.table s)) ≡ count h (flat_map (cell_holds c k) c.table) + count h (listed (of_key k v))
   put_holds k h =
       let a : count h (flat_map (cell_holds c k) new) + count h (cell_holds c k (slot_at c.table s)) ≡ count h (flat_map (cell_holds c k) c.table) + count h (cell_holds c k (slot_at new s)) =
-          written (cell_holds c k) refl h c.table new s (slot_at new s) (record { here = refl; others = put.others }) in
+      written (cell_holds c k) refl h c.table new s (slot_at new s) (record { here = refl; others = put.others }) in
       let b : cell_holds c k (slot_at new s) ≡ listed (of_key k v) = ap (cell_holds c k) put.here ∙ at_index k in
       a ∙ ap (λ xs. count h (flat_map (cell_holds c k) c.table) + count h xs) b
     where

@@ -136,7 +136,7 @@ module _ (p : Parts) (t : ℕ) (task : is_task p.scenario t ≡ true) (next : Is
         held name there k same i h e handle =
             let a : 0 < count h (flat_map (cell_holds (plain_of p) keys.User) p.vouchers) = table_holds (plain_of p) keys.User (looked (by_name (names_of p.spaces t).names name)) u i h there (ap (λ q. index_of q u) (sym same) ∙ e) handle in
             let b : count h after ≡ count h (behind (task_holds keys.User) m.tasks (t - 1)) + count h (flat_map (cell_holds (plain_of p) keys.User) p.vouchers) =
-                sum_by-append (λ y. cond (y == h) 1 0) (behind (task_holds keys.User) m.tasks (t - 1)) (flat_map (cell_holds (plain_of p) keys.User) p.vouchers) in
+            sum_by-append (λ y. cond (y == h) 1 0) (behind (task_holds keys.User) m.tasks (t - 1)) (flat_map (cell_holds (plain_of p) keys.User) p.vouchers) in
             omega (arith, a, b)
 
         by : (o : Option ℕ) → index_of k u ≡ o → IsShared (plain_of p) (is_user p) p.user ahead after receipts claims (Some o)
@@ -168,7 +168,7 @@ module _ (p : Parts) (t : ℕ) (task : is_task p.scenario t ≡ true) (next : Is
     base : Both before_it (unworked (plain_of p) w)
     base = (
       record { map = z.both.map; lets = tt; handles = λ i. refl; made = λ i. refl },
-      subst (λ (q : Picture). picture.Stands q p.user_entries p.user) (picture_now keys.User (plain_of p) m t s.shape.long range.1 ∙ rw (own_is, twin_is) refl) s.keyed.0.counts
+      subst (λ (q : Picture). picture.Stands q p.user_entries p.user) (picture_now keys.User (plain_of p) m t s.shape.long range.1 ∙ rw (own_is, twin_is) refl) s.keyed.0.counts,
     )
 
     -- what the code did to the map is what the machine does
@@ -243,10 +243,12 @@ module _ (p : Parts) (t : ℕ) (task : is_task p.scenario t ≡ true) (next : Is
             let named : NamedIn (voucher_of p t) (Ok x) = subst (NamedIn (voucher_of p t)) q.done (first_named (voucher_of p t) (first_of (drop f.at bytes))) in
             let lets : f.lets ≡ [] = ap (λ (u : Frame). u.lets) z.both.own in
             let both : Both m st f v g w bytes z (record { entries = e2; map = v2; lets = ls }) y =
-                both_after m st f v g w bytes z apart x y (record { entries = e2; map = v2; lets = ls }) named a (subst (λ l. ChangesBy (record { entries = p.user_entries; map = v; lets = l }) x (record { entries = e2; map = v2; lets = ls })) lets changes) in
-            (Next m st f v g w bytes z want r rest at y result e2 v2 ls nxt next_is both, happens m st f v g w bytes z want r rest at y result e2 v2 ls nxt next_is both,
-            kind_is m st f v g w bytes z want r rest at y result e2 v2 ls nxt next_is both,
-            (st.0, stands_then m st f v g w bytes z want r rest at y result e2 v2 ls nxt next_is both frames2 put)))))
+            both_after m st f v g w bytes z apart x y (record { entries = e2; map = v2; lets = ls }) named a (subst (λ l. ChangesBy (record { entries = p.user_entries; map = v; lets = l }) x (record { entries = e2; map = v2; lets = ls })) lets changes) in (
+              Next m st f v g w bytes z want r rest at y result e2 v2 ls nxt next_is both,
+              happens m st f v g w bytes z want r rest at y result e2 v2 ls nxt next_is both,
+              kind_is m st f v g w bytes z want r rest at y result e2 v2 ls nxt next_is both,
+              (st.0, stands_then m st f v g w bytes z want r rest at y result e2 v2 ls nxt next_is both frames2 put),
+            ))))
 
   -- a record with a code
 
@@ -268,7 +270,10 @@ module _ (p : Parts) (t : ℕ) (task : is_task p.scenario t ≡ true) (next : Is
       event_then : IsEvent p.scenario kinds.Work t (plain_of p) (plain_of new)
       event_then want m st = works_seen p t task next idle m _ st (λ f v g w bytes z.
           let q : Reads (voucher_of p t) bytes f.at (Err code) = reads f bytes z.own (call_is p t task next idle m f v g w bytes st z) in
-          let result : work_first (tasked m t).names (first_of (drop g.at_byte bytes)) w ≡ Err code.number = worked_err (plain_of p) w code (work_first (tasked m t).names (first_of (drop g.at_byte bytes)) w) (answered m st f v g w bytes z (Err code) q.refused) in
-          (Refused m st f v g w bytes z want code.number result, refused_happens m st f v g w bytes z want code.number result, next_in p t (Some kinds.Work) m next st,
-          subst (λ sc. IsState sc (plain_of new) (Refused m st f v g w bytes z want code.number result)) refusal.scenario
-          (refusal.stands m st (forming_machine w g.at_byte g.keys) (twin_is m st f v g w bytes z) (calls.Create bytes) z.both.create)))
+          let result : work_first (tasked m t).names (first_of (drop g.at_byte bytes)) w ≡ Err code.number = worked_err (plain_of p) w code (work_first (tasked m t).names (first_of (drop g.at_byte bytes)) w) (answered m st f v g w bytes z (Err code) q.refused) in (
+            Refused m st f v g w bytes z want code.number result,
+            refused_happens m st f v g w bytes z want code.number result,
+            next_in p t (Some kinds.Work) m next st,
+            subst (λ sc. IsState sc (plain_of new) (Refused m st f v g w bytes z want code.number result)) refusal.scenario
+                (refusal.stands m st (forming_machine w g.at_byte g.keys) (twin_is m st f v g w bytes z) (calls.Create bytes) z.both.create),
+          ))

@@ -188,11 +188,11 @@ module _ (p : Parts) (t : ℕ) (task : is_task p.scenario t ≡ true) where
         by_forming f own g twin r None forms =
             let q : (f.receipt ≡ None) × (f.claim ≡ Claiming.Nothing) × (f.lets ≡ []) = quiet f (sym (ap value_kind own) ∙ idle) in
             let e : frame_next (tasked m t).names g (current p.scenario m t) g.receipt ≡ None =
-                nothing_next (tasked m t).names g (current p.scenario m t)
-                (no_receipt g.receipt (subst (λ o. Optional IsReceipt o g.receipt) q.0 r.receipt))
-                (no_claim (plain_of p) g.claim (subst (λ x. IsClaim (plain_of p) x g.claim) q.1 r.claim))
-                (no_lets (plain_of p) g.lets (subst (λ ls. Pairwise (IsLet (plain_of p)) ls g.lets) q.2 r.lets))
-                (no_map g.forming (subst (λ o. Optional (IsMap (plain_of p)) o g.forming) forms r.forming)) in
+            nothing_next (tasked m t).names g (current p.scenario m t)
+            (no_receipt g.receipt (subst (λ o. Optional IsReceipt o g.receipt) q.0 r.receipt))
+            (no_claim (plain_of p) g.claim (subst (λ x. IsClaim (plain_of p) x g.claim) q.1 r.claim))
+            (no_lets (plain_of p) g.lets (subst (λ ls. Pairwise (IsLet (plain_of p)) ls g.lets) q.2 r.lets))
+            (no_map g.forming (subst (λ o. Optional (IsMap (plain_of p)) o g.forming) forms r.forming)) in
             absurd (no_kind None (sym e ∙ (sym (ap (task_next p.scenario (phases_in m.past) t (tasked m t)) twin) ∙ kind)))
 
         by_frame : (o : Option Frame) → frame_of p.frames t ≡ o → A
@@ -258,6 +258,7 @@ module _ (p : Parts) (t : ℕ) (task : is_task p.scenario t ≡ true) where
     pub keyed_map : (f : Frame) (v : Indices) → Reached p → frame_of p.frames t ≡ Some f → f.forming ≡ Some v → IsKeyed v
     keyed_map f v r own e = reached_state p _ r (λ m st. works_seen m _ st (λ f2 u g w bytes z.
         subst IsKeyed (same_map f.forming v u e (ap (λ (x : Frame). x.forming) (sym (same_frame (frame_of p.frames t) f f2 own z.own)) ∙ z.forms)) z.both.map.1))
+
     -- the same where the code has the frame and its map in hand
     pub works_at : (m : Machine) (A : Type 0) → Stands p m → (f : Frame) (v : Indices) → frame_of p.frames t ≡ Some f → f.forming ≡ Some v → ((g : machine.Frame) (w : Handles) (bytes : List ℕ) → Works m f v g w bytes → A) → A
     works_at m A st f v own forms h = works_seen m A st (λ f2 v2 g w bytes z.

@@ -1,5 +1,5 @@
 -- Which events belong to a call.
-use Rattle.std.specs.Prelude.{◌≡◌, ℕ, true, Some, None, is_some}
+use Rattle.std.specs.Prelude.{◌≡◌, ℕ, true, None, is_some}
 use Rattle.vch_base.specs.declared.kind.Kind.{Kind}
 use Rattle.vch_base.specs.declared.kind.Kind.TheVariants as kinds
 use Rattle.vch_machine.specs.State.{Machine}

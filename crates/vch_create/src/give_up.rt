@@ -14,7 +14,7 @@ use crate::refuse::let_go_of;
 use vch_base::Code;
 use vch_model::{Entry, Reply, Word};
 use vch_ports::GiveUp;
-use vch_state::{closed, Claiming, Frame, Lets, Parts, Spaces};
+use vch_state::{Claiming, Frame, Lets, Parts, Spaces, closed};
 use vch_table::{Indices, VoucherTable};
 
 /// Whether the name was there that a task gave up, and its voucher where no name and no message has it any more.
@@ -26,12 +26,7 @@ pub struct GivenUp {
 
 /// Takes one user reference from a name of a task. With the last one the slot of its voucher has one reference less. The
 /// time is linear in the number of the task's names.
-fn give_name_up(
-    vouchers: &mut VoucherTable,
-    spaces: &mut Spaces,
-    task: u32,
-    name: u32,
-) -> GivenUp
+fn give_name_up(vouchers: &mut VoucherTable, spaces: &mut Spaces, task: u32, name: u32) -> GivenUp
     requires task { (0 < task) × (task ≤ length spaces.old) }
     requires live { IsThere vouchers.old (looked (by_name (names_of spaces.old task).names name)) }
     ensures drops { Drops (by_name (names_of spaces.old task).names name) vouchers.old vouchers.new result }

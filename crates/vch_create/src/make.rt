@@ -46,7 +46,9 @@ fn note_made(parts: &mut Parts, handle: u32, entry: Entry)
     ensures spare { parts.new.history.spare + 1 ≡ parts.old.history.spare }
 {
     parts.history.push(entry);
-    parts.made.set(Key::User, handle, parts.history.len() as u32);
+    parts
+        .made
+        .set(Key::User, handle, parts.history.len() as u32);
 }
 
 /// The task's frame has a receipt then.
@@ -76,17 +78,21 @@ fn go_on(parts: &mut Parts, task: u32, entry: Entry)
 {
     match ask(parts, task) {
         Ok(Made::Nothing) => lose(parts, task),
-        Ok(Made::Receipt {
-            receipt,
-            fresh: true,
-        }) => {
+        Ok(
+            Made::Receipt {
+                receipt,
+                fresh: true,
+            },
+        ) => {
             note_made(parts, receipt.handle, entry);
             give_receipt(parts, task, receipt);
         }
-        Ok(Made::Receipt {
-            receipt,
-            fresh: false,
-        }) => give_receipt(parts, task, receipt),
+        Ok(
+            Made::Receipt {
+                receipt,
+                fresh: false,
+            },
+        ) => give_receipt(parts, task, receipt),
         Err(GetFault::Refused { code }) => refuse(parts, task, code),
         Err(GetFault::NoMemory) => refuse(parts, task, Code { number: 6 }),
     }

@@ -10,7 +10,7 @@ ghost use Rattle.vch_create.specs.Gives.{Gives, map_in, placed};
 use crate::refuse::{created, let_go_of, refuse};
 use vch_base::{Code, NoMemory};
 use vch_model::Reply;
-use vch_state::{closed, Frame, Parts, Spaces};
+use vch_state::{Frame, Parts, Spaces, closed};
 use vch_table::{Indices, VoucherTable};
 
 /// The name that a task got for a voucher, and whether some name or message had the voucher before.
@@ -106,9 +106,7 @@ pub fn place(parts: &mut Parts, task: u32)
     let Some(frame) = parts.frames.take(task) else {
         return;
     };
-    parts
-        .frames
-        .put(task, ended(frame, &map, given.was_there));
+    parts.frames.put(task, ended(frame, &map, given.was_there));
     parts
         .history
         .push(created(task, number, Reply::Created { name: given.name }));

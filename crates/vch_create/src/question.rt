@@ -70,7 +70,9 @@ pub fn read_question(parts: &Parts, task: u32) -> Question
     };
     question.at = frame.at;
     if let Step::One {
-        command, previous, ..
+        command,
+        previous,
+        ..
     } = next_recipe(bytes.as_slice(), frame.at)
     {
         question.command = command;

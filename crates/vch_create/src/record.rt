@@ -17,16 +17,24 @@ pub struct Record {
 
 /// The number that stands for all keys, and the commands of a record that asks no manager. They are the kernel release's.
 const ALL_KEYS: u32 = 4294967295;
+
 const NOTHING: u32 = 0;
+
 const COPY: u32 = 1;
+
 const REMOVE: u32 = 2;
+
 const SET_VALUE: u32 = 3;
+
 const AUTO_REDEEM: u32 = 4;
+
 const PREPROCESS: u32 = 5;
 
 /// The codes of what can't be read, of what is not built in, and of a voucher that is not there.
 pub const INVALID: Code = Code { number: 4 };
+
 const NOT_BUILT: Code = Code { number: 8 };
+
 const NO_VOUCHER: Code = Code { number: 20 };
 
 /// The keys that a number stands for, or nothing where it is no key of a manager.

@@ -8,7 +8,7 @@ ghost use Rattle.vch_create.specs.Refusals.{IsRefusal};
 
 use vch_base::{Code, Key};
 use vch_model::{Entry, Reply, Word};
-use vch_state::{closed, KeyIndex, Lets, Parts};
+use vch_state::{KeyIndex, Lets, Parts, closed};
 use vch_table::Indices;
 
 /// Appends the index that a map has at a key, if there is one.

@@ -46,7 +46,12 @@ fn carry_out(parts: &mut Parts, task: u32, deed: Record)
     let Some(mut map) = frame.forming.take() else {
         return;
     };
-    change_map(&mut parts.user_entries, &mut map, &mut frame.lets, &deed.change);
+    change_map(
+        &mut parts.user_entries,
+        &mut map,
+        &mut frame.lets,
+        &deed.change,
+    );
     frame.forming = Some(map);
     frame.at = deed.next;
     parts.frames.put(task, Some(frame));

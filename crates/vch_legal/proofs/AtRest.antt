@@ -6,7 +6,7 @@ use Rattle.std.specs.List.{list_any}
 use Rattle.vch_base.specs.declared.key.Key.{Key}
 use Rattle.vch_base.specs.declared.key.Key.TheVariants as keys
 use Rattle.vch_base.specs.declared.kind.Kind.TheVariants as kinds
-use Rattle.vch_base.specs.Keys.{number_of, key_of}
+use Rattle.vch_base.specs.Keys.{number_of}
 use Rattle.vch_base.specs.Values.{Belongs, is_default}
 use Rattle.vch_base.specs.declared.value.Value.{Value}
 use Rattle.vch_base.specs.declared.value.Value.TheVariants as values

@@ -1,5 +1,5 @@
 -- The lines of all tasks are no more than all lines, and so what is left at the start is bounded by the number of calls.
-use Rattle.std.proofs.Common.{◌≡◌, ℕ, zero, suc, ◌+◌, ◌-◌, ◌*◌, ◌<◌, ◌≤◌, ◌==◌, nat_lt, Bool, true, false, cond, List, [], ◌∷◌, ◌++◌, refl, arith, sym, ap, ◌∙◌, length, length-append, map}
+use Rattle.std.proofs.Common.{◌≡◌, ℕ, zero, suc, ◌+◌, ◌*◌, ◌<◌, ◌≤◌, ◌==◌, nat_lt, Bool, true, false, cond, List, [], ◌∷◌, ◌++◌, refl, arith, ap, length, length-append, map}
 use Rattle.std.specs.Prelude.{if◌then◌else◌}
 use Rattle.std.specs.List.{filter}
 use Rattle.std.proofs.lemmas.Grind.{common_steps}
@@ -10,7 +10,7 @@ use Rattle.vch_model.specs.declared.call.Line.{Line}
 use Rattle.vch_model.specs.declared.lists.Scenario.{Scenario}
 use Rattle.vch_model.specs.Lines.{lines_from, lines_of}
 use Rattle.vch_model.specs.Scenarios.{line_count}
-use Rattle.vch_machine.specs.State.{Machine, start, idle}
+use Rattle.vch_machine.specs.State.{start, idle}
 use Rattle.vch_legal.specs.Left.{call_left, lines_left, tasks_left, left}
 
 abbrev Numbered : Type 0

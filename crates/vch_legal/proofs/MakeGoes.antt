@@ -2,7 +2,6 @@
 use Rattle.std.proofs.Common.{◌≡◌, ℕ, Bool, List, [], ◌∷◌, refl, true, false, ◌||◌, sym, ap, ◌∙◌, subst, length, drop, Some, Option, Ok, Err, Result}
 use Rattle.std.specs.Prelude.{if◌then◌else◌, nat_lt, ℤ, pos}
 use Rattle.vch_base.specs.declared.key.Key.{Key}
-use Rattle.vch_base.specs.declared.kind.Kind.{Kind}
 use Rattle.vch_base.specs.declared.kind.Kind.TheVariants as kinds
 use Rattle.vch_base.specs.declared.value.Value.{Value}
 use Rattle.vch_base.specs.Managers.{sent, mapped}

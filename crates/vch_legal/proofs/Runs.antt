@@ -1,5 +1,5 @@
 -- All stands at the start, through every move, and so along every run, whose history is legal, and whole at its end.
-use Rattle.std.proofs.Common.{◌≡◌, ℕ, zero, suc, ◌+◌, ◌-◌, ◌<◌, ◌≤◌, Bool, List, [], ◌∷◌, refl, true, false, not, ◌&&◌, arith, sym, ap, subst, length, map, reverse, get_or, Some, None, Option}
+use Rattle.std.proofs.Common.{◌≡◌, ℕ, suc, ◌+◌, ◌-◌, ◌<◌, ◌≤◌, Bool, List, [], ◌∷◌, refl, true, false, not, ◌&&◌, arith, sym, ap, subst, length, map, reverse, get_or, Some, None, Option}
 use Rattle.std.proofs.lemmas.List.{reverse-reverse}
 use Rattle.std.specs.Prelude.{if◌then◌else◌, nat_lt}
 use Rattle.vch_base.specs.declared.flags.Flags.{Flags}

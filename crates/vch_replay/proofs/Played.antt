@@ -1,5 +1,5 @@
 -- What a run to the end tells: its history is whole, and its report's text is that of the history.
-use Rattle.std.proofs.Common.{◌≡◌, ℕ, ◌<◌, ◌≤◌, nat_lt, Bool, true, false, not, List, [], ◌∷◌, refl, arith, sym, ap, ◌∙◌, length, reverse, subst, Option, Some, None, Result, Ok, Err, IfOk}
+use Rattle.std.proofs.Common.{◌≡◌, ℕ, ◌≤◌, nat_lt, false, not, List, [], ◌∷◌, refl, arith, sym, ap, ◌∙◌, length, reverse, subst, Some, Result, Ok, Err, IfOk}
 use Rattle.std.specs.Global.{Vec}
 use Rattle.vch_base.specs.declared.fault.NoMemory.{NoMemory}
 use Rattle.std.proofs.lemmas.List.{reverse-reverse}
@@ -11,8 +11,8 @@ use Rattle.vch_model.specs.Legal.{Whole}
 use Rattle.vch_model.specs.Lines.{phases_in}
 use Rattle.vch_model.specs.Text.{Text}
 use Rattle.vch_machine.specs.State.{Machine, start}
-use Rattle.vch_machine.specs.Schedules.{Move, run, run_from_start, has_ended, in_turn, by_seed}
-use Rattle.vch_machine.specs.EndedRuns.{EndsWith, IsInTurn, IsBySeed}
+use Rattle.vch_machine.specs.Schedules.{Move, in_turn, by_seed}
+use Rattle.vch_machine.specs.EndedRuns.{EndsWith}
 use Rattle.vch_machine.specs.PlainRuns.{TellNoWant, IsPlainRun}
 use Rattle.vch_machine.proofs.WithoutWant.{without_want}
 use Rattle.vch_legal.proofs.Runs.{run_whole}
@@ -24,7 +24,7 @@ use Rattle.vch_core.specs.Runs.{RunsTo, EndsInTurn, EndsBySeed}
 use Rattle.vch_report.specs.declared.report.Report.{Report}
 use Rattle.vch_report.specs.Items.{text_of}
 use Rattle.vch_report.specs.OfCore.{Tells}
-use Rattle.vch_replay.specs.Run.{IsReportOf, IsTurnReport, IsSeedReport}
+use Rattle.vch_replay.specs.Run.{IsTurnReport, IsSeedReport}
 
 parts_of : (p : Parts) (m : Machine) → Stands p m → Limited p.scenario × StandsFor p.scenario (keys.User ∷ []) (plain_of p) m
 unfolding IsState

@@ -1,7 +1,8 @@
 //! Runs in an order of single events.
 use std::alloc::Global;
 use std::test::Fail;
-use vch_core::{are_tasks, drive, finish};
+use vch_base::Kind;
+use vch_core::{Stepped, are_tasks, drive, finish, step};
 use vch_report::report_of;
 use vch_state::{Core, is_user_only};
 
@@ -57,6 +58,51 @@ fn worked_orders(rt: HostRuntime) -> Result<(), Fail> {
     for row in ROWS {
         let report = ordered(alloc, row)?;
         assert_eq!(rt; report.as_slice(), row.report.as_bytes());
+    }
+    Ok(())
+}
+
+/// The tasks of the first row's order, each with the event that it does.
+const STEPS: &[(u32, Kind)] = &[
+    (1, Kind::Begin),
+    (1, Kind::Make),
+    (1, Kind::Refer),
+    (1, Kind::Place),
+    (1, Kind::Begin),
+    (1, Kind::LetGo),
+    (2, Kind::Begin),
+    (2, Kind::Make),
+    (1, Kind::Ask),
+    (1, Kind::Recheck),
+    (2, Kind::Refer),
+    (2, Kind::Place),
+];
+
+#[test]
+fn steps_of_the_race(rt: HostRuntime) -> Result<(), Fail> {
+    let alloc = rt.alloc();
+    let Ok(scenario) = vch_scenario::read(alloc, ROWS[0].scenario) else {
+        return Err(Fail::new("not a scenario"));
+    };
+    if !is_user_only(&scenario) || scenario.flags.len() != 2 {
+        return Err(Fail::new("not a scenario of creates and drops of two tasks"));
+    }
+    let mut core = Core::start(alloc, &scenario)?;
+    for (task, kind) in STEPS {
+        if !are_tasks(&core, &[*task]) {
+            return Err(Fail::new("no task"));
+        }
+        let Stepped::Went { did, .. } = step(&mut core, *task) else {
+            return Err(Fail::new("no step"));
+        };
+        assert!(rt; did == *kind);
+    }
+    if are_tasks(&core, &[1]) {
+        assert!(rt; step(&mut core, 1) == Stepped::PhaseEnd);
+    }
+    finish(&mut core);
+    if are_tasks(&core, &[1]) {
+        assert!(rt; step(&mut core, 1) == Stepped::Ended);
     }
     Ok(())
 }

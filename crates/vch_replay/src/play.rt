@@ -38,11 +38,7 @@ fn seed_text(alloc: Global, scenario: &Scenario, seed: u64) -> Result<Vec<u8>, N
 }
 
 /// The report of a scenario's run in turn, or by a seed.
-fn report_text(
-    alloc: Global,
-    scenario: &Scenario,
-    seed: Option<u64>,
-) -> Result<Vec<u8>, NoMemory>
+fn report_text(alloc: Global, scenario: &Scenario, seed: Option<u64>) -> Result<Vec<u8>, NoMemory>
     requires built { IsUserOnly scenario.now }
     requires writable { IsWritable scenario.now }
     ensures { IfOk result (λ text. IsPlayed seed scenario.now text.items) }

@@ -1,5 +1,5 @@
 -- Ask keeps all that the parts stand for.
-use Rattle.std.proofs.Common.{◌≡◌, ◌≢◌, ℕ, zero, suc, ◌+◌, ◌-◌, ◌<◌, ◌≤◌, ◌==◌, not, Bool, true, false, cond, List, [], ◌∷◌, ◌++◌, refl, arith, sym, ap, ◌∙◌, length, reverse, get_or, subst, Option, Some, None, inl, inr}
+use Rattle.std.proofs.Common.{◌≡◌, ◌≢◌, ℕ, zero, suc, ◌+◌, ◌-◌, ◌<◌, ◌≤◌, not, Bool, true, false, cond, List, [], ◌∷◌, ◌++◌, refl, arith, sym, ap, ◌∙◌, length, reverse, get_or, subst, Option, Some, None, inl, inr}
 use Rattle.std.specs.Prelude.{if◌then◌else◌}
 use Rattle.std.specs.List.{count_by}
 use Rattle.std.proofs.Math.ListN.{set}
@@ -10,7 +10,7 @@ use Rattle.std.proofs.lemmas.List.Sums.{sum_by-cons}
 use Rattle.vch_base.specs.declared.key.Key.{Key}
 use Rattle.vch_base.specs.declared.places.Live.{Live}
 use Rattle.vch_base.specs.Managers.{Kept, live_at, after_release}
-use Rattle.vch_base.specs.Slots.{is_taken, slot_at}
+use Rattle.vch_base.specs.Slots.{is_taken}
 use Rattle.vch_entry.specs.Entries as entry
 use Rattle.vch_entry.specs.Entries.{handle_at, entry_at}
 use Rattle.vch_table.specs.declared.indices.KeyedIndex.{KeyedIndex}
@@ -19,7 +19,6 @@ use Rattle.vch_value.specs.declared.flight.Asked.{Asked}
 use Rattle.vch_value.specs.Picture as picture
 use Rattle.vch_value.specs.Picture.{Picture, Claimed, with_claims}
 use Rattle.vch_value.proofs.Lists.{test_other}
-use Rattle.vch_model.specs.declared.entry.Entry.{Entry}
 use Rattle.vch_model.specs.declared.entry.Entry.TheVariants as entries
 use Rattle.vch_model.specs.declared.lists.Scenario.{Scenario}
 use Rattle.vch_model.specs.Lines.{phases_in}
@@ -33,15 +32,14 @@ use Rattle.vch_legal.proofs.AskSpots.{without_here, without_other}
 use Rattle.vch_state.specs.declared.frame.Frame.{Frame}
 use Rattle.vch_state.specs.declared.frame.Claiming.{Claiming}
 use Rattle.vch_state.specs.declared.frame.KeyIndex.{KeyIndex}
-use Rattle.vch_state.specs.declared.tally.Tally.{Tally}
-use Rattle.vch_state.specs.Plain.{Plain, KeyParts, part_of, with_frame, number_at}
-use Rattle.vch_state.specs.Shape.{Shape, Optional, IsIndexOf, IsClaim, IsFrame, IsTask, slots_of}
-use Rattle.vch_state.specs.Pictures.{picture_of, frame_claimed, claimed_of, claimed, sync_of, same_key}
+use Rattle.vch_state.specs.Plain.{Plain, KeyParts, part_of, number_at}
+use Rattle.vch_state.specs.Shape.{Shape, IsIndexOf, IsFrame, IsTask, slots_of}
+use Rattle.vch_state.specs.Pictures.{picture_of, claimed, same_key}
 use Rattle.vch_state.specs.Bounds.{rank, makes, open_of, flying_of, in_all, unanswered_in}
-use Rattle.vch_state.specs.Stands.{StandsFor, KeyStands, IsLiving, SameTally}
+use Rattle.vch_state.specs.Stands.{StandsFor, IsLiving}
 use Rattle.vch_state.specs.Moves.{with_values, with_frame_at, one_asked, noted_release, less_room}
 use Rattle.vch_state.proofs.Stable.{task_stays, frame_stays}
-use Rattle.vch_state.proofs.Replaced.{picture_by, claims_before, claims_behind, shape_then, framed}
+use Rattle.vch_state.proofs.Replaced.{claims_before, claims_behind, shape_then, framed}
 use Rattle.vch_state.proofs.Spending.{spent_then, unanswered_then, begun_then, open_then, work_same, makes_same}
 use Rattle.vch_state.proofs.Keys.{of_with, same_key_refl, each_key, cells_same}
 use Rattle.vch_state.proofs.LetsGo.{leaving_frame, leaving_machine}

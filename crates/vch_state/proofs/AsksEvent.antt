@@ -1,18 +1,17 @@
 -- From what the calls of Ask promise to what the event does.
-use Rattle.std.proofs.Common.{◌≡◌, ◌≢◌, ℕ, zero, suc, ◌+◌, ◌-◌, ◌<◌, ◌≤◌, not, Bool, true, false, List, [], ◌∷◌, ◌++◌, refl, arith, sym, ap, ◌∙◌, length, map, get_or, subst, Option, Some, None}
-use Rattle.std.specs.Prelude.{is_some, IsSome, IfSome, ◌^◌}
+use Rattle.std.proofs.Common.{◌≡◌, ◌≢◌, ℕ, ◌+◌, ◌-◌, ◌<◌, ◌≤◌, not, Bool, true, false, List, [], ◌∷◌, ◌++◌, refl, arith, sym, ap, ◌∙◌, length, get_or, subst, Option, Some, None}
+use Rattle.std.specs.Prelude.{IsSome, IfSome, ◌^◌}
 use Rattle.std.specs.List.{count_by}
 use Rattle.std.proofs.Math.ListN.{set}
 use Rattle.vch_base.specs.declared.key.Key.{Key}
 use Rattle.vch_base.specs.declared.key.Key.TheVariants as keys
 use Rattle.vch_base.specs.declared.kind.Kind.TheVariants as kinds
 use Rattle.vch_base.specs.declared.places.Live.{Live}
-use Rattle.vch_base.specs.declared.value.Value.{Value}
 use Rattle.vch_base.specs.declared.value.Value.TheVariants as values
 use Rattle.vch_base.specs.Values.{is_default}
 use Rattle.vch_base.specs.Managers.{Kept, live_at, value_at, value_of, after_release}
 use Rattle.vch_base.specs.Slots.{is_taken}
-use Rattle.vch_entry.specs.Entries.{Entries, handle_at, entry_at}
+use Rattle.vch_entry.specs.Entries.{handle_at, entry_at}
 use Rattle.vch_value.specs.declared.flight.Claim as flight
 use Rattle.vch_value.specs.declared.flight.Asked.{Asked}
 use Rattle.vch_value.specs.Picture as picture
@@ -21,17 +20,13 @@ use Rattle.vch_value.specs.Calls.{IsFor}
 use Rattle.vch_model.specs.Lines.{is_task}
 use Rattle.vch_model.specs.Rows as rows
 use Rattle.vch_model.specs.declared.call.Call.{Call}
-use Rattle.vch_model.specs.declared.entry.Entry.{Entry}
-use Rattle.vch_model.specs.declared.lists.Scenario.{Scenario}
 use Rattle.vch_machine.specs.State as machine
 use Rattle.vch_machine.specs.State.{of_key, Place, Machine, tasked}
 use Rattle.vch_machine.specs.Next.{current, next_kind}
 use Rattle.vch_machine.specs.Events.{event}
-use Rattle.vch_machine.specs.Leaving.{do_ask}
 use Rattle.vch_legal.proofs.Keeps.{event_keeps}
 use Rattle.vch_state.specs.declared.frame.Frame.{Frame}
 use Rattle.vch_state.specs.declared.frame.Claiming.{Claiming}
-use Rattle.vch_state.specs.declared.frame.KeyIndex.{KeyIndex}
 use Rattle.vch_state.specs.declared.frames.Working.{Working}
 use Rattle.vch_state.specs.declared.parts.Parts.{Parts}
 use Rattle.vch_state.specs.declared.tally.Tally.{Tally}

@@ -1,11 +1,11 @@
 -- Two lists side by side, one place of each replaced.
-use Rattle.std.proofs.Common.{◌≡◌, ℕ, zero, suc, ◌+◌, ◌-◌, ◌<◌, ◌≤◌, Bool, List, [], ◌∷◌, ◌++◌, refl, true, false, cond, arith, sym, ap, ◌∙◌, length, get_or, append_assoc}
+use Rattle.std.proofs.Common.{◌≡◌, ℕ, zero, suc, ◌<◌, List, [], ◌∷◌, ◌++◌, refl, arith, sym, ap, ◌∙◌, length, get_or}
 use Rattle.std.proofs.Math.ListN.{set}
 use Rattle.std.specs.List.{flat_map}
 use Rattle.vch_machine.specs.State.{Tasked, idle}
 use Rattle.vch_legal.proofs.TaskLists.{before, behind, all_split, all_set}
 use Rattle.vch_state.specs.Plain.{Part, idle_part}
-use Rattle.vch_state.specs.Pictures.{Both, both}
+use Rattle.vch_state.specs.Pictures.{both}
 
 pub both_set : (xs : List Part) (ys : List Tasked) (i : ℕ) (a : Part) (b : Tasked) → both (set xs i a) (set ys i b) ≡ set (both xs ys) i (record { part = a; task = b })
 both_set [] ys i a b = refl

@@ -1,10 +1,10 @@
 -- Claims on a handle, in the state and in the picture.
-use Rattle.std.proofs.Common.{◌≡◌, ℕ, zero, suc, ◌+◌, ◌-◌, ◌<◌, ◌==◌, ◌&&◌, ◌||◌, not, Bool, true, false, cond, List, [], ◌∷◌, ◌++◌, refl, arith, sym, ap, ◌∙◌, length, get_or, subst, Option, Some, None}
-use Rattle.std.specs.List.{list_any, flat_map}
+use Rattle.std.proofs.Common.{◌≡◌, ℕ, suc, ◌-◌, ◌<◌, ◌==◌, ◌&&◌, Bool, true, false, cond, List, [], ◌∷◌, ◌++◌, refl, arith, sym, length, get_or, subst, Option, Some, None}
+use Rattle.std.specs.List.{flat_map}
 use Rattle.vch_base.specs.declared.key.Key.{Key}
 use Rattle.vch_model.specs.declared.call.Call.{Call}
 use Rattle.vch_model.specs.declared.lists.Scenario.{Scenario}
-use Rattle.vch_value.specs.Picture.{claims_at, is_nil, Claimed}
+use Rattle.vch_value.specs.Picture.{claims_at, Claimed}
 use Rattle.vch_machine.specs.State as machine
 use Rattle.vch_machine.specs.State.{of_key, Place, same_place, Claim, Machine, Tasked, tasked, idle, claim_at, frame_claims, claims_on, is_empty}
 use Rattle.vch_machine.specs.Next.{current}
@@ -12,7 +12,7 @@ use Rattle.vch_state.specs.declared.frame.Frame.{Frame}
 use Rattle.vch_state.specs.declared.frame.Claiming.{Claiming}
 use Rattle.vch_state.specs.Plain.{Plain, Part, part_of, idle_part}
 use Rattle.vch_state.specs.Shape.{Shape, Optional, IsFrame}
-use Rattle.vch_state.specs.Pictures.{picture_of, same_key, sync_of, Both, both, frame_claimed, claimed_of, both_claimed}
+use Rattle.vch_state.specs.Pictures.{picture_of, same_key, sync_of, Both, both, frame_claimed, claimed_of}
 
 module _ (k : Key) (h : ℕ) where
   abbrev pub here : Place

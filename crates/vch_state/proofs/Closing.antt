@@ -1,21 +1,17 @@
 -- A frame that has nothing left to do is gone, and stands for nothing.
-use Rattle.std.proofs.Common.{◌≡◌, ℕ, ◌||◌, not, Bool, true, false, cond, List, [], ◌∷◌, ◌++◌, refl, sym, ap, ◌∙◌, subst, Option, Some, None}
+use Rattle.std.proofs.Common.{◌≡◌, ◌||◌, not, Bool, true, false, cond, List, [], ◌∷◌, refl, Option, Some, None}
 use Rattle.std.specs.Prelude.{is_some}
 use Rattle.vch_base.specs.declared.key.Key.{Key}
 use Rattle.vch_model.specs.declared.call.Call.{Call}
-use Rattle.vch_table.specs.declared.indices.KeyedIndex.{KeyedIndex}
-use Rattle.vch_value.specs.declared.flight.Receipt.{Receipt}
 use Rattle.vch_machine.specs.State as machine
 use Rattle.vch_machine.specs.State.{Handles, Place, is_empty}
 use Rattle.vch_machine.specs.Frames as frames
 use Rattle.vch_state.specs.declared.frame.Frame.{Frame}
 use Rattle.vch_state.specs.declared.frame.Claiming.{Claiming}
-use Rattle.vch_state.specs.declared.frame.KeyReceipt.{KeyReceipt}
-use Rattle.vch_state.specs.declared.frame.KeyIndex.{KeyIndex}
 use Rattle.vch_state.specs.Plain.{Plain, closed, is_nothing}
-use Rattle.vch_state.specs.Shape.{Optional, Pairwise, IsFrame, IsClaim, IsLet}
-use Rattle.vch_state.specs.Pictures.{frame_holds, receipts_of, receipt_of, frame_claimed, claimed_of, forming_holds}
-use Rattle.vch_state.specs.Bounds.{rank, work_left, makes, open_of, flying_of}
+use Rattle.vch_state.specs.Shape.{Optional, Pairwise, IsFrame, IsClaim}
+use Rattle.vch_state.specs.Pictures.{frame_holds, receipts_of, frame_claimed, claimed_of}
+use Rattle.vch_state.specs.Bounds.{rank, makes, open_of, flying_of}
 
 -- the test of a frame that is gone
 abbrev pub stays : Frame → Bool

@@ -1,12 +1,12 @@
 -- Receipts and claims at a handle, in the state and in the picture.
-use Rattle.std.proofs.Common.{◌≡◌, ℕ, zero, suc, ◌+◌, ◌-◌, ◌<◌, ◌==◌, nat_lt, ◌&&◌, ◌||◌, not, Bool, true, false, cond, List, [], ◌∷◌, ◌++◌, refl, arith, sym, ap, ◌∙◌, length, get_or, subst, Option, Some, None}
+use Rattle.std.proofs.Common.{◌≡◌, ℕ, suc, ◌-◌, ◌<◌, ◌==◌, ◌&&◌, ◌||◌, Bool, true, false, cond, List, [], ◌∷◌, ◌++◌, refl, arith, sym, ap, ◌∙◌, length, get_or, subst, Option, Some, None}
 use Rattle.std.specs.List.{list_any, flat_map}
 use Rattle.std.proofs.lemmas.Grind.{common_steps}
 use Rattle.vch_base.specs.declared.key.Key.{Key}
 use Rattle.vch_model.specs.declared.call.Call.{Call}
 use Rattle.vch_model.specs.declared.lists.Scenario.{Scenario}
 use Rattle.vch_value.specs.declared.flight.Receipt.{Receipt}
-use Rattle.vch_value.specs.Picture.{flags_at, claims_at, is_met, is_nil, Claimed}
+use Rattle.vch_value.specs.Picture.{flags_at, is_met}
 use Rattle.vch_machine.specs.State as machine
 use Rattle.vch_machine.specs.State.{of_key, Place, same_place, Claim, Machine, Tasked, tasked, idle, is_place, frame_expects, is_expected, claim_at, frame_claims, claims_on, is_empty}
 use Rattle.vch_machine.specs.Next.{current}
@@ -14,9 +14,8 @@ use Rattle.vch_state.specs.declared.frame.Frame.{Frame}
 use Rattle.vch_state.specs.declared.frame.KeyReceipt.{KeyReceipt}
 use Rattle.vch_state.specs.Plain.{Plain, Part, part_of, idle_part}
 use Rattle.vch_state.specs.Shape.{Shape, Optional, IsReceipt, IsFrame}
-use Rattle.vch_state.specs.Pictures.{picture_of, receipt_of, receipts_of, same_key, part_expects}
-use Rattle.vch_state.proofs.Held.{any_same, any_along, cases_of}
-use Rattle.vch_state.proofs.Boths.{both_get}
+use Rattle.vch_state.specs.Pictures.{picture_of, receipt_of, receipts_of, same_key}
+use Rattle.vch_state.proofs.Held.{any_along}
 
 module _ (k : Key) (h : ℕ) where
   abbrev pub here : Place

@@ -1,6 +1,5 @@
 -- A frame as the record of its parts.
-use Rattle.std.proofs.Common.{◌≡◌, List, Option, Some, None, refl, sym, ap, ◌∙◌, subst}
-use Rattle.vch_value.specs.declared.flight.Claim.{Claim}
+use Rattle.std.proofs.Common.{◌≡◌, List, Option, Some, refl, subst}
 use Rattle.vch_model.specs.declared.call.Call.{Call}
 use Rattle.vch_machine.specs.State as machine
 use Rattle.vch_machine.specs.State.{Place}

@@ -1,8 +1,8 @@
 -- From the parts of a core to plain data, and a task's frames on both sides.
-use Rattle.std.proofs.Common.{◌≡◌, ℕ, zero, suc, ◌+◌, ◌-◌, ◌<◌, ◌≤◌, nat_lt, ◌&&◌, Bool, true, false, List, [], ◌∷◌, refl, arith, sym, ap, ◌∙◌, length, map, get_or, subst, Option, Some, None, IsTrue}
-use Rattle.std.specs.Prelude.{is_some, IsSome}
-use Rattle.std.proofs.Math.ListN.{set, get_or-map}
-use Rattle.std.proofs.lemmas.List.{map-set, set-set, length-map, get_or-set_same}
+use Rattle.std.proofs.Common.{◌≡◌, ℕ, zero, suc, ◌+◌, ◌-◌, ◌<◌, ◌≤◌, Bool, true, List, [], ◌∷◌, refl, arith, ap, ◌∙◌, length, get_or, subst, Option, Some, None}
+use Rattle.std.specs.Prelude.{IsSome}
+use Rattle.std.proofs.Math.ListN.{set}
+use Rattle.std.proofs.lemmas.List.{set-set, get_or-set_same}
 use Rattle.std.proofs.lemmas.Grind.{common_steps}
 use Rattle.vch_base.specs.declared.key.Key.{Key}
 use Rattle.vch_base.specs.declared.key.Key.TheVariants as keys
@@ -20,15 +20,14 @@ use Rattle.vch_machine.specs.Next.{current, next_kind}
 use Rattle.vch_machine.specs.Events.{event, event_of}
 use Rattle.vch_state.specs.declared.frame.Frame.{Frame}
 use Rattle.vch_state.specs.declared.frame.Claiming.{Claiming}
-use Rattle.vch_state.specs.declared.frame.KeyIndex.{KeyIndex}
 use Rattle.vch_state.specs.declared.frame.KeyReceipt.{KeyReceipt}
 use Rattle.vch_state.specs.declared.frames.Working.{Working}
 use Rattle.vch_state.specs.declared.parts.Parts.{Parts}
-use Rattle.vch_state.specs.Plain.{Plain, Part, part_of, idle_part, with_frame, resting, frame_of, with_frame_of, working_of}
-use Rattle.vch_state.specs.Shape.{Optional, IsFrame, IsIndexOf, Shape}
+use Rattle.vch_state.specs.Plain.{Plain, part_of, idle_part, with_frame, resting, frame_of, with_frame_of, working_of}
+use Rattle.vch_state.specs.Shape.{Optional, IsFrame, IsIndexOf}
 use Rattle.vch_state.specs.Bounds.{Limited}
 use Rattle.vch_state.specs.Stands.{StandsFor}
-use Rattle.vch_state.specs.Reached.{plain_of, part_in, parts_in, IsState, IsEnd, Reached, value_kind, receipt_kind, claim_kind, lets_kind}
+use Rattle.vch_state.specs.Reached.{plain_of, part_in, parts_in, IsState, IsEnd, Reached, value_kind, receipt_kind, claim_kind}
 
 -- a frame that is put where another was taken
 parts_put : (ss : List Names) (fs : List Working) (i : ℕ) (f : Option Frame) → parts_in ss (set fs i (record (get_or fs i resting) { frame = f })) ≡ set (parts_in ss fs) i (with_frame (get_or (parts_in ss fs) i idle_part) f)

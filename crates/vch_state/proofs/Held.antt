@@ -2,7 +2,7 @@
 use Rattle.std.proofs.Common.{◌≡◌, ℕ, zero, suc, ◌+◌, ◌-◌, ◌<◌, ◌==◌, nat_lt, ◌&&◌, ◌||◌, Bool, true, false, cond, List, [], ◌∷◌, ◌++◌, refl, arith, sym, ap, ◌∙◌, length, get_or, subst, Option, Some, None}
 use Rattle.std.specs.List.{list_any, flat_map}
 use Rattle.std.proofs.lemmas.Grind.{common_steps}
-use Rattle.std.proofs.lemmas.List.Sums.{sum_by-append, sum_by-cons}
+use Rattle.std.proofs.lemmas.List.Sums.{sum_by-cons}
 use Rattle.vch_base.specs.declared.key.Key.{Key}
 use Rattle.vch_base.specs.Managers.{count}
 use Rattle.vch_model.specs.declared.lists.Scenario.{Scenario}
@@ -12,8 +12,7 @@ use Rattle.vch_base.specs.Slots.{slot_at}
 use Rattle.vch_table.specs.declared.table.Cell.{Cell}
 use Rattle.vch_table.specs.Vouchers.{references_of}
 use Rattle.vch_state.specs.Plain.{Plain, Part, part_of, idle_part, SlotName, SlotMessage}
-use Rattle.vch_state.specs.Shape.{Indices, index_of, Shape, Pairwise, Optional, IsIndexOf, IsMap, IsSlotOf, HasMap, IsName, IsMessage, IsTable, slots_of, named_by, queued_by, referred_by, is_slot, bit}
-use Rattle.vch_state.specs.Pictures as pictures
+use Rattle.vch_state.specs.Shape.{index_of, Shape, Pairwise, Optional, IsIndexOf, IsSlotOf, HasMap, IsName, IsMessage, IsTable, slots_of, named_by, queued_by, referred_by, is_slot, bit}
 use Rattle.vch_state.specs.Pictures.{cell_holds, forming_holds, frame_holds, let_holds, listed, translated, same_key, picture_of}
 use Rattle.vch_state.proofs.Maps.{at_key}
 

@@ -1,15 +1,14 @@
 -- A key's values are replaced in the parts.
-use Rattle.std.proofs.Common.{◌≡◌, ℕ, Bool, true, List, [], ◌∷◌, refl, ap, Option, Some, None}
+use Rattle.std.proofs.Common.{◌≡◌, ℕ, true, List, [], ◌∷◌, refl, ap, Option, Some, None}
 use Rattle.std.specs.List.{flat_map}
 use Rattle.vch_base.specs.declared.key.Key.{Key}
 use Rattle.vch_base.specs.declared.key.Key.TheVariants as keys
 use Rattle.vch_base.specs.Managers.{Kept}
-use Rattle.vch_entry.specs.declared.table.Entry.{Entry}
 use Rattle.vch_entry.specs.Entries.{Entries, handle_at}
 use Rattle.vch_table.specs.declared.table.Cell.{Cell}
 use Rattle.vch_machine.specs.State.{Keyed, of_key, with_key}
 use Rattle.vch_state.specs.Plain.{Plain, KeyParts}
-use Rattle.vch_state.specs.Shape.{IsIndexOf, index_of, slots_of}
+use Rattle.vch_state.specs.Shape.{index_of, slots_of}
 use Rattle.vch_state.specs.Pictures.{same_key, cell_holds, listed, translated}
 use Rattle.vch_state.specs.Moves.{with_values}
 

@@ -1,43 +1,39 @@
 -- LetGo keeps all that the parts stand for.
-use Rattle.std.proofs.Common.{◌≡◌, ◌≢◌, ℕ, zero, suc, ◌+◌, ◌-◌, ◌<◌, ◌≤◌, ◌==◌, nat_lt, ◌&&◌, ◌||◌, not, Bool, true, false, cond, List, [], ◌∷◌, ◌++◌, refl, arith, sym, ap, ◌∙◌, length, append_assoc, subst, Option, Some, None}
-use Rattle.std.specs.Prelude.{is_some, IfSome}
-use Rattle.std.proofs.Math.ListN.{set}
+use Rattle.std.proofs.Common.{◌≡◌, ◌≢◌, ℕ, ◌+◌, ◌-◌, ◌<◌, ◌≤◌, ◌==◌, nat_lt, ◌&&◌, not, Bool, true, false, cond, List, [], ◌∷◌, ◌++◌, refl, arith, sym, ap, ◌∙◌, length, append_assoc, subst, Option, Some, None}
+use Rattle.std.specs.Prelude.{is_some}
 use Rattle.std.specs.List.{flat_map}
 use Rattle.vch_base.specs.declared.key.Key.{Key}
 use Rattle.vch_base.specs.declared.places.Live.{Live}
-use Rattle.vch_base.specs.Managers.{Kept, live_at, count}
+use Rattle.vch_base.specs.Managers.{live_at, count}
 use Rattle.vch_base.specs.Values.{is_default}
 use Rattle.vch_entry.specs.Entries.{Entries, handle_at, entry_at, made_of}
 use Rattle.vch_table.specs.declared.indices.KeyedIndex.{KeyedIndex}
 use Rattle.vch_value.specs.declared.flight.Claim as flight
-use Rattle.vch_value.specs.declared.flight.Receipt.{Receipt}
 use Rattle.vch_value.specs.Picture as picture
 use Rattle.vch_value.specs.Picture.{Picture, Claimed, Alike, claims_at, flags_at, is_nil, is_met, let_go_picture, takes_claim, default_of}
 use Rattle.vch_value.proofs.Rows.{stands_alike}
-use Rattle.vch_model.specs.declared.call.Call.{Call}
 use Rattle.vch_model.specs.declared.lists.Scenario.{Scenario}
 use Rattle.vch_machine.specs.State as machine
 use Rattle.vch_machine.specs.State.{of_key, Handles, Place, Living, Machine, Tasked, tasked, living_at, is_held, is_expected, claims_on, is_empty}
 use Rattle.vch_machine.specs.Frames as frames
 use Rattle.vch_machine.specs.Leaving as leaving
 use Rattle.vch_machine.specs.Leaving.{do_let_go, claim_if, is_fixed, is_fixed_value}
-use Rattle.vch_machine.specs.Next.{current, nth_call}
+use Rattle.vch_machine.specs.Next.{current}
 use Rattle.vch_legal.specs.Facts.{Fits}
 use Rattle.vch_state.specs.declared.frame.Frame.{Frame}
 use Rattle.vch_state.specs.declared.frame.Claiming.{Claiming}
 use Rattle.vch_state.specs.declared.frame.KeyIndex.{KeyIndex}
-use Rattle.vch_state.specs.declared.tally.Tally.{Tally}
-use Rattle.vch_state.specs.Plain.{Plain, Part, KeyParts, part_of, with_frame, closed, number_at}
-use Rattle.vch_state.specs.Shape.{Shape, Pairwise, Optional, IsIndexOf, IsLet, IsClaim, IsFrame, IsTask, slots_of}
-use Rattle.vch_state.specs.Pictures.{picture_of, task_holds, cell_holds, frame_holds, forming_holds, let_holds, frame_claimed, same_key, claimed, sync_of}
-use Rattle.vch_state.specs.Bounds.{rank, makes, open_of, flying_of, in_all}
+use Rattle.vch_state.specs.Plain.{Plain, KeyParts, part_of, with_frame, closed, number_at}
+use Rattle.vch_state.specs.Shape.{Shape, Optional, IsIndexOf, IsClaim, IsFrame, IsTask, slots_of}
+use Rattle.vch_state.specs.Pictures.{picture_of, forming_holds, let_holds, frame_claimed, claimed}
+use Rattle.vch_state.specs.Bounds.{rank, makes, open_of, flying_of}
 use Rattle.vch_state.specs.Stands.{StandsFor, KeyStands, IsLiving, SameTally}
 use Rattle.vch_state.specs.Moves.{with_values, with_frame_at, claiming, more_claims}
-use Rattle.vch_state.proofs.Stable.{task_stays, frame_stays}
+use Rattle.vch_state.proofs.Stable.{task_stays}
 use Rattle.vch_state.proofs.Held.{held_counted}
 use Rattle.vch_state.proofs.Expected.{expected_met}
 use Rattle.vch_state.proofs.Claims.{AreThose, claims_those}
-use Rattle.vch_state.proofs.Replaced.{pictured, picture_by, held_before, held_behind, receipts_before, receipts_behind, claims_before, claims_behind, picture_now, picture_then, shape_then, framed}
+use Rattle.vch_state.proofs.Replaced.{picture_by, held_before, held_behind, claims_before, claims_behind, picture_now, picture_then, shape_then, framed}
 use Rattle.vch_state.proofs.Closing.{closed_frames, holds_closed, receipts_closed, claimed_closed, rank_closed, makes_closed, open_closed, flying_closed}
 use Rattle.vch_state.proofs.Spending.{spent_then, unanswered_then, begun_then, open_then, work_same, makes_same}
 use Rattle.vch_state.proofs.Keys.{of_with, same_key_refl, each_key, cells_same}

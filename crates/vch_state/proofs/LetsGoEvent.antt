@@ -1,9 +1,8 @@
 -- From what the calls of LetGo promise to what the event does.
-use Rattle.std.proofs.Common.{◌≡◌, ℕ, zero, suc, ◌+◌, ◌-◌, ◌<◌, ◌≤◌, Bool, true, false, List, [], ◌∷◌, ◌++◌, refl, arith, sym, ap, ◌∙◌, length, map, get_or, subst, Option, Some, None, inl, inr}
+use Rattle.std.proofs.Common.{◌≡◌, ℕ, ◌+◌, ◌-◌, ◌<◌, ◌≤◌, Bool, true, false, List, [], ◌∷◌, ◌++◌, refl, arith, sym, ap, ◌∙◌, length, get_or, subst, Option, Some, None, inl, inr}
 use Rattle.std.specs.Prelude.{is_some, IsSome, IfSome, ◌^◌}
 use Rattle.std.proofs.lemmas.Bool.{cases_eq}
 use Rattle.vch_model.specs.declared.call.Call.{Call}
-use Rattle.vch_base.specs.declared.key.Key.{Key}
 use Rattle.vch_base.specs.declared.key.Key.TheVariants as keys
 use Rattle.vch_base.specs.declared.kind.Kind.TheVariants as kinds
 use Rattle.vch_base.specs.Managers.{Kept, count}
@@ -18,7 +17,6 @@ use Rattle.vch_value.specs.Calls.{LetsGo, claim_of}
 use Rattle.vch_value.proofs.Entry.{entry_is}
 use Rattle.vch_value.proofs.Lists.{count_out}
 use Rattle.vch_model.specs.Lines.{is_task}
-use Rattle.vch_model.specs.declared.lists.Scenario.{Scenario}
 use Rattle.vch_machine.specs.State as machine
 use Rattle.vch_machine.specs.State.{Place, Machine, tasked}
 use Rattle.vch_machine.specs.Frames as frames
@@ -35,7 +33,7 @@ use Rattle.vch_state.specs.declared.parts.Parts.{Parts}
 use Rattle.vch_state.specs.declared.tally.Tally.{Tally}
 use Rattle.std.proofs.Math.ListN.{set}
 use Rattle.vch_state.specs.Plain.{Plain, with_frame, idle_part, part_of, closed, frame_of, with_frame_of}
-use Rattle.vch_state.specs.Shape.{Pairwise, Optional, IsIndexOf, IsLet, IsClaim, IsReceipt, IsFrame, slots_of}
+use Rattle.vch_state.specs.Shape.{Pairwise, Optional, IsIndexOf, IsLet, IsClaim, IsReceipt, IsFrame}
 use Rattle.vch_state.specs.Pictures.{picture_of}
 use Rattle.vch_state.specs.Bounds.{Limited}
 use Rattle.vch_state.specs.Stands.{StandsFor}
@@ -44,7 +42,7 @@ use Rattle.vch_state.specs.Reached.{plain_of, parts_in, IsState, IsEvent, Follow
 use Rattle.vch_state.proofs.FrameParts.{frame_is, machine_frame_is}
 use Rattle.vch_state.proofs.Glue.{put_taken, own_frame, in_parts, in_frames, twin_of, is_user, there_of, entry_of_handle, from_reached, event_is, lets_go_next}
 use Rattle.vch_state.proofs.Spending.{done_bound}
-use Rattle.vch_state.proofs.LetsGo.{leaving_frame, leaving_machine, IsOf, is_now, ahead, after, split, claim_is, told_claim, F1, then_parts, then_machine, stands_after, P}
+use Rattle.vch_state.proofs.LetsGo.{leaving_frame, leaving_machine, IsOf, is_now, ahead, after, split, claim_is, then_parts, then_machine, stands_after, P}
 
 -- what a frame that lets go of something has beside it in the machine
 pub record Leaving (c : Plain) (f : Frame) (l : KeyIndex) (ls : List KeyIndex) (g : machine.Frame) (p : Place) (rest : List Place) : Type 0 where

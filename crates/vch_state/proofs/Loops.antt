@@ -1,10 +1,9 @@
 -- One more item of a list that is copied or counted.
-use Rattle.std.proofs.Common.{◌≡◌, ℕ, zero, suc, ◌+◌, ◌<◌, ◌≤◌, List, [], ◌∷◌, ◌++◌, refl, arith, sym, ap, ◌∙◌, subst, length, take, drop, Option, Some, None}
+use Rattle.std.proofs.Common.{◌≡◌, ℕ, zero, suc, ◌+◌, ◌≤◌, List, [], ◌∷◌, ◌++◌, refl, arith, sym, ap, ◌∙◌, length, take, drop, Some}
 use Rattle.std.specs.Prelude.{slice_get}
 use Rattle.vch_ports.specs.Names.{Names}
 use Rattle.vch_model.specs.Scenarios.{line_count}
 use Rattle.vch_model.specs.declared.call.Line.{Line}
-use Rattle.vch_state.specs.declared.frames.Working.{Working}
 use Rattle.vch_state.specs.Plain.{resting}
 use Rattle.vch_state.specs.Fresh.{AreFresh, all_resting}
 

@@ -1,19 +1,16 @@
 -- A frame's claim is replaced: what stands then, and the claim's place in the picture.
-use Rattle.std.proofs.Common.{◌≡◌, ◌≢◌, ℕ, ◌+◌, ◌-◌, ◌<◌, Bool, true, false, List, [], ◌∷◌, ◌++◌, refl, arith, sym, ap, ◌∙◌, length, subst, Option, Some, None}
+use Rattle.std.proofs.Common.{◌≡◌, ℕ, ◌-◌, ◌<◌, Bool, false, List, [], ◌∷◌, ◌++◌, refl, sym, ap, ◌∙◌, length, subst, Option, Some, None}
 use Rattle.std.proofs.Math.ListN.{set}
 use Rattle.std.specs.List.{flat_map}
 use Rattle.vch_base.specs.declared.key.Key.{Key}
 use Rattle.vch_base.specs.declared.places.Live.{Live}
 use Rattle.vch_base.specs.Managers.{live_at, count}
 use Rattle.vch_entry.specs.declared.table.Entry.{Entry}
-use Rattle.vch_entry.specs.Entries.{releasing_of}
 use Rattle.vch_table.specs.declared.indices.KeyedIndex.{KeyedIndex}
-use Rattle.vch_value.specs.declared.flight.Receipt.{Receipt}
 use Rattle.vch_value.specs.Picture as picture
 use Rattle.vch_value.specs.Picture.{Picture, Claimed, Meets, IsClaimed, IsDead, IsTaken, IsKept, claims_at, flags_at, entry_of, default_of, with_claims}
 use Rattle.vch_value.proofs.Lists.{claims_here}
 use Rattle.vch_value.proofs.Claims.{only}
-use Rattle.vch_model.specs.declared.call.Call.{Call}
 use Rattle.vch_model.specs.declared.lists.Scenario.{Scenario}
 use Rattle.vch_machine.specs.State as machine
 use Rattle.vch_machine.specs.State.{of_key, Handles, Place, Machine, Tasked, tasked}
@@ -22,11 +19,10 @@ use Rattle.vch_state.specs.declared.frame.Frame.{Frame}
 use Rattle.vch_state.specs.declared.frame.Claiming.{Claiming}
 use Rattle.vch_state.specs.declared.frame.KeyIndex.{KeyIndex}
 use Rattle.vch_state.specs.Plain.{Plain, part_of, with_frame}
-use Rattle.vch_state.specs.Shape.{Shape, IsIndexOf, IsClaim, IsFrame, IsTask, slots_of}
-use Rattle.vch_state.specs.Pictures.{picture_of, cell_holds, frame_holds, receipts_of, frame_claimed, claimed_of, same_key, claimed, sync_of}
+use Rattle.vch_state.specs.Shape.{IsFrame}
+use Rattle.vch_state.specs.Pictures.{picture_of, cell_holds, frame_holds, receipts_of, frame_claimed, claimed_of, claimed, sync_of}
 use Rattle.vch_state.specs.Stands.{StandsFor}
-use Rattle.vch_state.proofs.Stable.{task_stays}
-use Rattle.vch_state.proofs.Replaced.{pictured, picture_by, claims_before, claims_behind, picture_now, picture_then, shape_then, framed}
+use Rattle.vch_state.proofs.Replaced.{picture_by, claims_before, claims_behind, picture_now, picture_then, framed}
 use Rattle.vch_state.proofs.Keys.{same_key_refl}
 use Rattle.vch_state.proofs.FrameParts.{frames_of}
 use Rattle.vch_state.proofs.LetsGo.{leaving_frame, leaving_machine}

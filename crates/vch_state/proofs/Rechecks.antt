@@ -1,14 +1,11 @@
 -- Recheck keeps all that the parts stand for.
-use Rattle.std.proofs.Common.{◌≡◌, ◌≢◌, ℕ, zero, suc, ◌+◌, ◌-◌, ◌<◌, ◌≤◌, ◌==◌, nat_lt, ◌&&◌, not, Bool, true, false, cond, List, [], ◌∷◌, ◌++◌, refl, arith, sym, ap, ◌∙◌, length, get_or, subst, Option, Some, None, inl, inr}
-use Rattle.std.specs.Prelude.{is_some, IsSome, IfSome}
+use Rattle.std.proofs.Common.{◌≡◌, ◌≢◌, ℕ, ◌+◌, ◌-◌, ◌<◌, ◌≤◌, ◌==◌, nat_lt, ◌&&◌, not, Bool, false, cond, List, [], ◌∷◌, ◌++◌, refl, arith, sym, ap, ◌∙◌, length, subst, Option, Some, None}
+use Rattle.std.specs.Prelude.{is_some}
 use Rattle.std.specs.List.{flat_map}
-use Rattle.std.proofs.Math.ListN.{set}
-use Rattle.std.proofs.lemmas.Bool.{cases_eq}
 use Rattle.std.proofs.lemmas.Grind.{common_steps}
 use Rattle.vch_base.specs.declared.key.Key.{Key}
-use Rattle.vch_base.specs.Managers.{Kept, live_at, count}
-use Rattle.vch_entry.specs.declared.table.Entry.{Entry}
-use Rattle.vch_entry.specs.Entries.{Entries, handle_at, entry_at, made_of}
+use Rattle.vch_base.specs.Managers.{count}
+use Rattle.vch_entry.specs.Entries.{Entries, entry_at, made_of}
 use Rattle.vch_table.specs.declared.indices.KeyedIndex.{KeyedIndex}
 use Rattle.vch_value.specs.declared.flight.Claim as flight
 use Rattle.vch_value.specs.declared.flight.Asked.{Asked}
@@ -25,19 +22,19 @@ use Rattle.vch_legal.specs.Facts.{Fits}
 use Rattle.vch_state.specs.declared.frame.Frame.{Frame}
 use Rattle.vch_state.specs.declared.frame.Claiming.{Claiming}
 use Rattle.vch_state.specs.declared.frame.KeyIndex.{KeyIndex}
-use Rattle.vch_state.specs.Plain.{Plain, KeyParts, part_of, with_frame, closed, number_at}
-use Rattle.vch_state.specs.Shape.{Shape, Optional, IsIndexOf, IsClaim, IsFrame, IsTask, slots_of}
-use Rattle.vch_state.specs.Pictures.{picture_of, cell_holds, frame_claimed, claimed_of, claimed, sync_of, same_key}
-use Rattle.vch_state.specs.Bounds.{rank, makes, open_of, flying_of, in_all}
-use Rattle.vch_state.specs.Stands.{StandsFor, KeyStands}
+use Rattle.vch_state.specs.Plain.{Plain, KeyParts, part_of, with_frame, closed}
+use Rattle.vch_state.specs.Shape.{Shape, IsIndexOf, IsClaim, IsFrame, IsTask}
+use Rattle.vch_state.specs.Pictures.{picture_of, cell_holds, claimed_of, claimed}
+use Rattle.vch_state.specs.Bounds.{rank, makes, open_of, flying_of}
+use Rattle.vch_state.specs.Stands.{StandsFor}
 use Rattle.vch_state.specs.Moves.{with_values, with_frame_at, claiming}
 use Rattle.vch_state.proofs.Held.{held_counted}
 use Rattle.vch_state.proofs.Expected.{expected_met}
-use Rattle.vch_state.proofs.Replaced.{picture_by, claims_before, claims_behind, shape_then, framed}
+use Rattle.vch_state.proofs.Replaced.{claims_before, claims_behind, shape_then, framed}
 use Rattle.vch_state.proofs.Closing.{closed_frames, holds_closed, receipts_closed, claimed_closed, rank_closed, makes_closed, open_closed, flying_closed}
 use Rattle.vch_state.proofs.Spending.{spent_then, unanswered_then, begun_then, open_then, work_same, makes_same}
 use Rattle.vch_state.proofs.Keys.{of_with, same_key_refl}
-use Rattle.vch_state.proofs.LetsGo.{leaving_frame, leaving_machine, IsOf}
+use Rattle.vch_state.proofs.LetsGo.{leaving_frame, leaving_machine}
 use Rattle.vch_state.proofs.OneClaim as one
 
 -- what stays of names, frames and the table once the entry was looked at

@@ -1,11 +1,10 @@
 -- From what the call of Recheck promises to what the event does.
-use Rattle.std.proofs.Common.{◌≡◌, ◌≢◌, ℕ, zero, suc, ◌+◌, ◌-◌, ◌<◌, ◌≤◌, ◌==◌, nat_lt, ◌&&◌, ◌||◌, not, Bool, true, false, cond, List, [], ◌∷◌, ◌++◌, refl, arith, sym, ap, ◌∙◌, length, map, get_or, subst, Option, Some, None, inl, inr, IsTrue}
+use Rattle.std.proofs.Common.{◌≡◌, ◌≢◌, ℕ, ◌+◌, ◌-◌, ◌<◌, ◌≤◌, ◌==◌, nat_lt, ◌||◌, not, Bool, true, false, cond, List, [], ◌∷◌, ◌++◌, refl, arith, sym, ap, ◌∙◌, length, get_or, subst, Option, Some, None, inl, inr, IsTrue}
 use Rattle.std.specs.Prelude.{is_some, IsSome, IfSome}
 use Rattle.std.specs.List.{list_any, flat_map}
 use Rattle.std.proofs.Math.ListN.{set}
 use Rattle.std.proofs.lemmas.Bool.{cases_eq}
 use Rattle.std.proofs.lemmas.List.Sums.{sum_by-append, sum_by-cons}
-use Rattle.std.proofs.lemmas.Grind.{common_steps}
 use Rattle.vch_base.specs.declared.key.Key.{Key}
 use Rattle.vch_base.specs.declared.key.Key.TheVariants as keys
 use Rattle.vch_base.specs.declared.kind.Kind.TheVariants as kinds
@@ -13,7 +12,7 @@ use Rattle.vch_base.specs.Managers.{Kept, live_at, count}
 use Rattle.vch_entry.specs.declared.table.Entry.{Entry}
 use Rattle.vch_entry.specs.declared.table.Check.{Check}
 use Rattle.vch_entry.specs.declared.table.Check.TheVariants as check
-use Rattle.vch_entry.specs.Entries.{Entries, handle_at, handle_of, entry_at, made_of, releasing_of, check_answer, checked, left_made, Writes, IsApart}
+use Rattle.vch_entry.specs.Entries.{Entries, handle_at, handle_of, entry_at, made_of, releasing_of, check_answer, checked, Writes, IsApart}
 use Rattle.vch_table.specs.declared.table.Cell.{Cell}
 use Rattle.vch_value.specs.declared.flight.Claim as flight
 use Rattle.vch_value.specs.declared.flight.Asked.{Asked}
@@ -21,22 +20,18 @@ use Rattle.vch_value.specs.Picture as picture
 use Rattle.vch_value.specs.Picture.{Picture, Claimed, Meets, with_claims, claims_at, flags_at, entry_of, again, takes_again}
 use Rattle.vch_value.specs.Calls.{IsAnswered, Rechecks, claim_again}
 use Rattle.vch_value.proofs.Entry.{entry_is}
-use Rattle.vch_value.proofs.Lists.{test_same, test_other}
+use Rattle.vch_value.proofs.Lists.{test_same}
 use Rattle.vch_model.specs.Lines.{is_task}
 use Rattle.vch_model.specs.declared.call.Call.{Call}
-use Rattle.vch_model.specs.declared.lists.Scenario.{Scenario}
 use Rattle.vch_machine.specs.State as machine
 use Rattle.vch_machine.specs.State.{of_key, Place, Named, Message, Machine, Tasked, tasked, idle, same_place, task_holds, frame_claims, frame_holds, has_place, option_has, is_held, claims_on}
 use Rattle.vch_machine.specs.Frames as frames
-use Rattle.vch_machine.specs.Leaving as leaving
-use Rattle.vch_machine.specs.Leaving.{do_recheck}
 use Rattle.vch_machine.specs.Next.{current, next_kind}
 use Rattle.vch_machine.specs.Events.{event}
 use Rattle.vch_legal.proofs.Keeps.{event_keeps}
 use Rattle.vch_legal.proofs.TaskLists.{before, behind, all_split}
 use Rattle.vch_state.specs.declared.frame.Frame.{Frame}
 use Rattle.vch_state.specs.declared.frame.Claiming.{Claiming}
-use Rattle.vch_state.specs.declared.frame.KeyIndex.{KeyIndex}
 use Rattle.vch_state.specs.declared.frames.Working.{Working}
 use Rattle.vch_state.specs.declared.parts.Parts.{Parts}
 use Rattle.vch_state.specs.Plain.{Plain, part_of, with_frame, idle_part, closed, frame_of, with_frame_of}
@@ -45,7 +40,7 @@ use Rattle.vch_state.specs.Pictures as pictures
 use Rattle.vch_state.specs.Pictures.{picture_of, cell_holds, listed, translated, claimed}
 use Rattle.vch_state.specs.Bounds.{Limited}
 use Rattle.vch_state.specs.Stands.{StandsFor}
-use Rattle.vch_state.specs.Moves.{with_values, with_frame_at, claiming}
+use Rattle.vch_state.specs.Moves.{with_frame_at, claiming}
 use Rattle.vch_state.specs.Reached.{plain_of, parts_in, IsState, IsEvent, Follows, Reached, value_kind}
 use Rattle.vch_state.proofs.FrameParts.{frame_is, machine_frame_is}
 use Rattle.vch_state.proofs.Glue.{put_taken, own_frame, in_parts, in_frames, twin_of, is_user, there_of, entry_of_handle, from_reached, event_is, rechecks_next}
@@ -53,7 +48,7 @@ use Rattle.vch_state.proofs.Held.{held_counted}
 use Rattle.vch_state.proofs.Claims.{AreThose, claims_those}
 use Rattle.vch_state.proofs.Stable.{task_stays, frame_stays}
 use Rattle.vch_state.proofs.Unused.{either_false, frame_unused, task_unused, none_passes, others_empty, lone}
-use Rattle.vch_state.proofs.Keys.{each_key, cells_same, same_key_refl}
+use Rattle.vch_state.proofs.Keys.{each_key, cells_same}
 use Rattle.vch_state.proofs.Replaced.{claims_before, claims_behind, framed}
 use Rattle.vch_state.proofs.LetsGo.{leaving_frame, leaving_machine}
 use Rattle.vch_state.proofs.OneClaim as one

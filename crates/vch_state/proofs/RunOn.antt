@@ -1,12 +1,12 @@
 -- A run with one event more.
-use Rattle.std.proofs.Common.{◌≡◌, ℕ, List, [], ◌∷◌, ◌++◌, refl, sym, ap, ◌∙◌, subst, Bool, false, Option, Some, None}
+use Rattle.std.proofs.Common.{◌≡◌, ℕ, List, [], ◌∷◌, ◌++◌, refl, sym, ◌∙◌, subst, Bool, false, Option, Some, None}
 use Rattle.vch_base.specs.declared.kind.Kind.{Kind}
 use Rattle.vch_model.specs.declared.lists.Scenario.{Scenario}
 use Rattle.vch_machine.specs.State.{Machine, start}
-use Rattle.vch_machine.specs.Schedules.{Move, happens, run, run_from_start}
+use Rattle.vch_machine.specs.Schedules.{Move, happens, run}
 use Rattle.vch_state.specs.declared.parts.Parts.{Parts}
 use Rattle.vch_state.specs.Plain.{Plain}
-use Rattle.vch_state.specs.Reached.{IsState, IsEnd, IsEvent, IsEventBy, Reached, Follows, MayFollow, plain_of}
+use Rattle.vch_state.specs.Reached.{IsEnd, IsEvent, IsEventBy, Reached, Follows, MayFollow, plain_of}
 
 no_moves : (sc : Scenario) (o : Option Machine) → run sc [] o ≡ o
 no_moves sc None = refl

@@ -1,5 +1,5 @@
 -- What was done and what can still be done, where one task is replaced.
-use Rattle.std.proofs.Common.{◌≡◌, ◌≢◌, ℕ, zero, suc, ◌+◌, ◌-◌, ◌*◌, ◌<◌, ◌≤◌, List, [], ◌∷◌, refl, arith, sym, ap, ◌∙◌, length, drop, get_or, subst, Option, Some, None, inl, inr}
+use Rattle.std.proofs.Common.{◌≡◌, ℕ, ◌+◌, ◌-◌, ◌*◌, ◌<◌, ◌≤◌, refl, arith, sym, length, get_or, subst, Option, Some, None, inl, inr}
 use Rattle.std.proofs.Math.ListN.{set}
 use Rattle.std.proofs.lemmas.Bool.{cases_eq}
 use Rattle.std.proofs.lemmas.List.{get_or-set_same, get_or-set_other}
@@ -7,10 +7,9 @@ use Rattle.vch_model.specs.declared.lists.Scenario.{Scenario}
 use Rattle.vch_model.specs.declared.call.Call.{Call}
 use Rattle.vch_model.specs.declared.call.Call.TheVariants as calls
 use Rattle.vch_model.specs.Lines.{phases_in, lines_of}
-use Rattle.vch_machine.specs.State.{Handles, Frame, Machine, Tasked, tasked, idle, is_empty}
-use Rattle.vch_machine.specs.Next.{current, nth_call}
-use Rattle.vch_legal.specs.Facts.{Fits}
-use Rattle.vch_state.specs.Bounds.{Limited, Spent, TaskSpent, calls_of, rank, makes, work_left, makes_left, open_of, flying_of, sum_tasks, in_all, rank_in, makes_in, begun_in, open_in, flying_in, references_in, unanswered_in}
+use Rattle.vch_machine.specs.State.{Handles, Frame, Machine, Tasked, tasked, idle}
+use Rattle.vch_machine.specs.Next.{current}
+use Rattle.vch_state.specs.Bounds.{Limited, Spent, TaskSpent, calls_of, rank, makes, work_left, makes_left, open_of, flying_of, in_all, rank_in, makes_in, begun_in, open_in, flying_in, references_in, unanswered_in}
 use Rattle.vch_state.proofs.Replaced.{framed}
 use Rattle.vch_state.proofs.Sums.{sum_with, sum_bounded}
 
@@ -86,7 +85,7 @@ pub unanswered_then : (sc : Scenario) (m n : Machine) (t : ℕ) (g : Option Fram
     → open_of g ≡ open_of (tasked m t).frame → in_all (unanswered_in sc) n ≡ in_all (unanswered_in sc) m
 unanswered_then sc m n t g positive inside tasks e =
     let a : in_all (unanswered_in sc) n + ((length (lines_of sc t) - (tasked m t).begun) + open_of (tasked m t).frame) ≡ in_all (unanswered_in sc) m + ((length (lines_of sc t) - (tasked m t).begun) + open_of g) =
-        sum_with (unanswered_in sc) m t n.tasks (framed (tasked m t) g) positive inside tasks in
+    sum_with (unanswered_in sc) m t n.tasks (framed (tasked m t) g) positive inside tasks in
     omega (arith, a, e)
 
 -- and so are the calls begun, and those that are open

@@ -1,5 +1,5 @@
 -- What a task stands for stays while the indices keep their handles and the table stays.
-use Rattle.std.proofs.Common.{◌≡◌, ℕ, List, [], ◌∷◌, Option, Some, None, refl, sym, ap, ◌∙◌, subst}
+use Rattle.std.proofs.Common.{◌≡◌, ℕ, List, [], ◌∷◌, Option, Some, None, sym, subst}
 use Rattle.vch_base.specs.declared.key.Key.{Key}
 use Rattle.vch_model.specs.declared.call.Call.{Call}
 use Rattle.vch_machine.specs.State as machine
@@ -10,7 +10,7 @@ use Rattle.vch_table.specs.declared.table.Cell.{Cell}
 use Rattle.vch_state.specs.declared.frame.Frame.{Frame}
 use Rattle.vch_state.specs.declared.frame.Claiming.{Claiming}
 use Rattle.vch_state.specs.declared.frame.KeyIndex.{KeyIndex}
-use Rattle.vch_state.specs.Plain.{Plain, Part, SlotName, SlotMessage}
+use Rattle.vch_state.specs.Plain.{Plain, Part}
 use Rattle.vch_state.specs.Shape.{Indices, index_of, Pairwise, Optional, IsIndexOf, AreIndices, IsMap, HasMap, IsSlotOf, IsName, IsMessage, IsLet, IsClaim, IsFrame, IsTask}
 
 pub pairwise : {A B : Type 0} (r q : A → B → Type 0) → ((a : A) (b : B) → r a b → q a b) → (xs : List A) (ys : List B) → Pairwise r xs ys → Pairwise q xs ys

@@ -1,15 +1,11 @@
 -- Sums over the tasks: where one task is replaced, where all are changed alike, and where they are at most its lines.
-use Rattle.std.proofs.Common.{◌≡◌, ◌≢◌, ℕ, zero, suc, ◌+◌, ◌-◌, ◌*◌, ◌<◌, ◌≤◌, ◌==◌, Bool, true, false, cond, List, [], ◌∷◌, ◌++◌, refl, arith, sym, ap, ◌∙◌, length, map, get_or, subst, Option, Some, None, inl, inr}
-use Rattle.std.specs.List.{filter}
+use Rattle.std.proofs.Common.{◌≡◌, ℕ, zero, suc, ◌+◌, ◌-◌, ◌<◌, ◌≤◌, List, [], ◌∷◌, refl, arith, sym, length, map, get_or, subst}
 use Rattle.std.proofs.Math.ListN.{set}
-use Rattle.std.proofs.lemmas.Grind.{common_steps}
-use Rattle.vch_model.specs.declared.call.Line.{Line}
 use Rattle.vch_model.specs.declared.lists.Scenario.{Scenario}
 use Rattle.vch_model.specs.Lines.{lines_of}
 use Rattle.vch_legal.proofs.LineSums.{lines_of_tasks, all_of_tasks}
-use Rattle.vch_model.specs.Scenarios.{line_count}
 use Rattle.vch_machine.specs.State.{Machine, Tasked, tasked, idle}
-use Rattle.vch_state.specs.Bounds.{sum_tasks, in_all, begun_in, TaskSpent, calls_of}
+use Rattle.vch_state.specs.Bounds.{sum_tasks, in_all, calls_of}
 
 abbrev Measure : Type 0
 Measure = ℕ → Tasked → ℕ
@@ -46,7 +42,7 @@ bounded f sc (x ∷ xs) t h =
     let e : t + 0 ≡ t = omega arith in
     let a : f t x ≤ length (lines_of sc t) = subst (λ u. f u x ≤ length (lines_of sc u)) e (h 0 (omega arith)) in
     let b : sum_tasks f (t + 1) xs ≤ lines_of_tasks sc (t + 1) (length xs) =
-        bounded f sc xs (t + 1) (λ i l. subst (λ u. f u (get_or xs i idle) ≤ length (lines_of sc u)) (shift t i) (h (suc i) (omega (arith, l)))) in
+    bounded f sc xs (t + 1) (λ i l. subst (λ u. f u (get_or xs i idle) ≤ length (lines_of sc u)) (shift t i) (h (suc i) (omega (arith, l)))) in
     omega (arith, a, b)
   where
     shift : (t i : ℕ) → t + suc i ≡ (t + 1) + i

@@ -1,8 +1,7 @@
 -- Which scenarios a core can run, record by record and line by line.
-use Rattle.std.proofs.Common.{◌≡◌, ℕ, zero, suc, ◌+◌, ◌-◌, ◌<◌, ◌≤◌, Bool, true, false, List, [], ◌∷◌, refl, arith, sym, ap, ◌∙◌, length, drop, subst, Some, IsTrue, Bor}
+use Rattle.std.proofs.Common.{◌≡◌, ℕ, zero, suc, ◌+◌, ◌<◌, ◌≤◌, Bool, true, false, List, [], ◌∷◌, refl, arith, sym, ap, ◌∙◌, length, drop, subst, Some, IsTrue, Bor}
 use Rattle.std.specs.Prelude.{◌↔◌, slice_get}
 use Rattle.std.specs.List.{AllByRecursion}
-use Rattle.std.proofs.lemmas.List.{length-drop}
 use Rattle.vch_recipe.specs.Recipes.{First, One, End, HeaderCut, ContentCut, first_of}
 use Rattle.vch_recipe.specs.declared.recipe.Recipe.{Recipe}
 use Rattle.vch_recipe.specs.declared.step.Step.{Step}
@@ -132,7 +131,6 @@ cut_asks bytes at n b = b.up (none_asks (drop at bytes) n)
 
 pub end_asks : (bytes : List ℕ) (at : ℕ) → length bytes ≤ at → Behind bytes at → AsksUserOnly bytes
 end_asks bytes at l b = b.up (subst AsksUserOnly (sym (drop_end bytes at l)) (none_asks [] (record { none = λ r rest e. cc })))
-
 
 pub one_of : (b : List ℕ) (size key command previous : ℕ) (content : Bor (List ℕ)) (next : ℕ) → Answers size (first_of b) (steps.One key command previous content next) → IsOne b size key command next
 one_of b size key command previous content next a = by (first_of b) refl a

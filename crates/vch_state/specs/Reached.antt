@@ -1,5 +1,5 @@
 -- What a core is at every moment: the end of a run of the event machine over its own scenario.
-use Rattle.std.specs.Prelude.{◌≡◌, ℕ, Bool, List, [], ◌∷◌, map, Option, Some, None}
+use Rattle.std.specs.Prelude.{◌≡◌, ℕ, Bool, List, [], ◌∷◌, Option, Some, None}
 use Rattle.vch_base.specs.declared.key.Key.TheVariants as keys
 use Rattle.vch_base.specs.declared.kind.Kind.{Kind}
 use Rattle.vch_base.specs.declared.kind.Kind.TheVariants as kinds
@@ -7,7 +7,7 @@ use Rattle.vch_base.specs.Managers.{user_rules}
 use Rattle.vch_model.specs.declared.lists.Scenario.{Scenario}
 use Rattle.vch_ports.specs.Names.{Names}
 use Rattle.vch_machine.specs.State.{Machine}
-use Rattle.vch_machine.specs.Events.{event, phase_event}
+use Rattle.vch_machine.specs.Events.{event}
 use Rattle.vch_machine.specs.Next.{next_kind}
 use Rattle.vch_machine.specs.Schedules.{Move, run_from_start}
 use Rattle.vch_state.specs.declared.frame.Frame.{Frame}

@@ -7,7 +7,9 @@ use vch_recipe::{Step, next_recipe};
 
 /// The keys of the managers of importance and of banks, and the number that stands for all keys.
 const IMPORTANCE: u32 = 2;
+
 const BANK: u32 = 3;
+
 const ALL_KEYS: u32 = 4294967295;
 
 /// The last command that is no manager's.
@@ -27,7 +29,10 @@ fn asks_user_only(bytes: &[u8]) -> bool
     let mut at = 0;
     while at < bytes.len() {
         let Step::One {
-            key, command, next, ..
+            key,
+            command,
+            next,
+            ..
         } = next_recipe(bytes, at)
         else {
             return true;

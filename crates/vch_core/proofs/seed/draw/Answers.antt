@@ -1,6 +1,5 @@
-use Rattle.std.proofs.Common.{◌≡◌, false, sym, ◌∙◌, subst, length, List, ℕ, Some, get_or, ◌/◌, ◌%◌}
-use Rattle.std.specs.Prelude.{◌==◌}
-use Rattle.vch_core.specs.Turning.{AreReady, IsDraw, CanGo}
+use Rattle.std.proofs.Common.{sym, ◌∙◌, subst, length, List, ℕ, Some, get_or, ◌/◌, ◌%◌}
+use Rattle.vch_core.specs.Turning.{IsDraw, CanGo}
 use Rattle.vch_core.proofs.Drawing.{draws_none, none_can, draws_at, at_can}
 use Rattle.vch_core.proofs.seed.draw.Goals as goal
 

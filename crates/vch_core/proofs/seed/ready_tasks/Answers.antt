@@ -1,4 +1,4 @@
-use Rattle.std.proofs.Common.{◌≡◌, ◌≤◌, ◌<◌, ◌+◌, arith, length, sym, ap, ◌∙◌, subst, lit<}
+use Rattle.std.proofs.Common.{◌≡◌, ◌≤◌, ◌<◌, ◌+◌, arith, length, sym, ap, ◌∙◌, subst}
 use Rattle.vch_core.proofs.Lowest.{few_tasks}
 use Rattle.vch_core.proofs.Drawing.{ReadyBelow, ready_some, ready_not, are_ready}
 use Rattle.vch_core.proofs.seed.ready_tasks.Goals as goal

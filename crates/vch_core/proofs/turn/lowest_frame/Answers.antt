@@ -1,5 +1,5 @@
 use Rattle.std.proofs.Common.{arith, length, ◌≤◌, sym, ap, ◌∙◌, ◌≡◌, subst}
-use Rattle.vch_core.proofs.Framed.{true_some, false_none}
+use Rattle.vch_core.proofs.Framed.{true_some}
 use Rattle.vch_core.proofs.Lowest.{few_tasks, lowest_found, lowest_none}
 use Rattle.vch_core.proofs.turn.lowest_frame.Goals as goal
 

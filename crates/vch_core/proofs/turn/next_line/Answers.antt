@@ -1,5 +1,4 @@
-use Rattle.std.proofs.Common.{◌≡◌, ◌≤◌, arith, length, sym, ap, ◌∙◌}
-use Rattle.std.specs.Prelude.{slice_get}
+use Rattle.std.proofs.Common.{◌≡◌, arith, length, ap}
 use Rattle.vch_core.specs.Turning.{current_lines}
 use Rattle.vch_core.proofs.Framed.{to_true}
 use Rattle.vch_core.proofs.Waiting.{found, lines_are, line_of_task, at_line, waits, none_waits, passes_line, within}
@@ -8,19 +7,19 @@ use Rattle.vch_core.proofs.turn.next_line.Goals as goal
 pub overflow_sub-seat : goal.overflow_sub-seat
 overflow_sub-seat c =
     let o = line_of_task c.args.core.now c.loop-cursor.cursor.line c.at.result.now c.know.ensures
-        (found c.args.core.now c.scenario.result.now c.phase.result c.at-lines.result.now c.loop-cursor.cursor.line c.at.result.now c.scenario.ensures c.phase.ensures c.at-lines.ensures c.at.ensures) in
+    (found c.args.core.now c.scenario.result.now c.phase.result c.at-lines.result.now c.loop-cursor.cursor.line c.at.result.now c.scenario.ensures c.phase.ensures c.at-lines.ensures c.at.ensures) in
     o.positive
 
 pub bounds-cursor-seat : goal.bounds-cursor-seat
 bounds-cursor-seat c =
     let o = line_of_task c.args.core.now c.loop-cursor.cursor.line c.at.result.now c.know.ensures
-        (found c.args.core.now c.scenario.result.now c.phase.result c.at-lines.result.now c.loop-cursor.cursor.line c.at.result.now c.scenario.ensures c.phase.ensures c.at-lines.ensures c.at.ensures) in
+    (found c.args.core.now c.scenario.result.now c.phase.result c.at-lines.result.now c.loop-cursor.cursor.line c.at.result.now c.scenario.ensures c.phase.ensures c.at-lines.ensures c.at.ensures) in
     o.seat
 
 pub begun-requires : goal.begun-requires
 begun-requires c =
     let o = line_of_task c.args.core.now c.loop-cursor.cursor.line c.at.result.now c.know.ensures
-        (found c.args.core.now c.scenario.result.now c.phase.result c.at-lines.result.now c.loop-cursor.cursor.line c.at.result.now c.scenario.ensures c.phase.ensures c.at-lines.ensures c.at.ensures) in
+    (found c.args.core.now c.scenario.result.now c.phase.result c.at-lines.result.now c.loop-cursor.cursor.line c.at.result.now c.scenario.ensures c.phase.ensures c.at-lines.ensures c.at.ensures) in
     record { task = to_true _ o.task }
 
 pub returns-then-cursor-seat-clause-waiting : goal.returns-then-cursor-seat-clause-waiting
@@ -34,13 +33,13 @@ returns-then-cursor-seat-clause-waiting c =
 pub bounds-cursor-seat-in-loop-cursor : goal.bounds-cursor-seat-in-loop-cursor
 bounds-cursor-seat-in-loop-cursor c =
     let o = line_of_task c.args.core.now c.loop-cursor.cursor.line c.at.result.now c.know.ensures
-        (found c.args.core.now c.scenario.result.now c.phase.result c.at-lines.result.now c.loop-cursor.cursor.line c.at.result.now c.scenario.ensures c.phase.ensures c.at-lines.ensures c.at.ensures) in
+    (found c.args.core.now c.scenario.result.now c.phase.result c.at-lines.result.now c.loop-cursor.cursor.line c.at.result.now c.scenario.ensures c.phase.ensures c.at-lines.ensures c.at.ensures) in
     o.seat
 
 pub bounds-cursor-seat-in-loop-cursor-2 : goal.bounds-cursor-seat-in-loop-cursor-2
 bounds-cursor-seat-in-loop-cursor-2 c =
     let o = line_of_task c.args.core.now c.loop-cursor.cursor.line c.at.result.now c.know.ensures
-        (found c.args.core.now c.scenario.result.now c.phase.result c.at-lines.result.now c.loop-cursor.cursor.line c.at.result.now c.scenario.ensures c.phase.ensures c.at-lines.ensures c.at.ensures) in
+    (found c.args.core.now c.scenario.result.now c.phase.result c.at-lines.result.now c.loop-cursor.cursor.line c.at.result.now c.scenario.ensures c.phase.ensures c.at-lines.ensures c.at.ensures) in
     o.seat
 
 pub loop-cursor-preserved : goal.loop-cursor-preserved
@@ -69,5 +68,5 @@ returns-clause-passed c =
 pub returns-then-cursor-seat-clause-task : goal.returns-then-cursor-seat-clause-task
 returns-then-cursor-seat-clause-task c =
     let o = line_of_task c.args.core.now c.loop-cursor.cursor.line c.at.result.now c.know.ensures
-        (found c.args.core.now c.scenario.result.now c.phase.result c.at-lines.result.now c.loop-cursor.cursor.line c.at.result.now c.scenario.ensures c.phase.ensures c.at-lines.ensures c.at.ensures) in
+    (found c.args.core.now c.scenario.result.now c.phase.result c.at-lines.result.now c.loop-cursor.cursor.line c.at.result.now c.scenario.ensures c.phase.ensures c.at-lines.ensures c.at.ensures) in
     o.task

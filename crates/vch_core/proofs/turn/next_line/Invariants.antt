@@ -1,5 +1,5 @@
 use Rattle.std.proofs.Common.{◌-◌, length}
-use Rattle.vch_core.specs.Turning.{IsCursor, current_lines}
+use Rattle.vch_core.specs.Turning.{IsCursor}
 use Rattle.vch_core.proofs.turn.next_line.Given as goal
 
 abbrev pub invariant-loop-cursor : goal.invariant-loop-cursor

@@ -3,7 +3,7 @@ use Rattle.std.proofs.Common.{◌-◌, ◌^◌, arith}
 use Rattle.vch_core.proofs.turn.pass_lines.Goals as goal
 
 pub overflow_add-passed : goal.overflow_add-passed
-overflow_add-passed c = let a = 
+overflow_add-passed c = let a =
     count_fits c.args.passed.now c.loop-i.passed c.args.lines.now c.loop-i.i c.at.result.now c.requires.tasks c.at.ensures c.loop-i.invariant (2 ^ 32) (c.requires.few (c.at.result.now.task - 1)) in omega (arith, a)
 
 pub bounds-passed-at-in-loop-i : goal.bounds-passed-at-in-loop-i

@@ -1,4 +1,4 @@
-use Rattle.std.proofs.Common.{◌≡◌, ◌≤◌, arith, length, sym, ap, ◌∙◌, subst, Some}
+use Rattle.std.proofs.Common.{◌≡◌, arith, length, sym, ap, subst, Some}
 use Rattle.std.specs.Prelude.{slice_get}
 use Rattle.vch_core.proofs.Starting.{Started, started_first, counts_few, phase_lines, counts_phase, phase_few, is_cursor}
 use Rattle.vch_core.proofs.turn.start_cursor.Goals as goal

@@ -1,4 +1,4 @@
-use Rattle.std.proofs.Common.{◌∙◌, sym, ap, refl}
+use Rattle.std.proofs.Common.{◌∙◌, sym, refl}
 use Rattle.vch_state.proofs.AsksEvent.{ask_there, ask_live, ask_other, ask_room, asks_few, asked_few, ask_follows}
 use Rattle.vch_state.proofs.ask.ask.Goals as goal
 

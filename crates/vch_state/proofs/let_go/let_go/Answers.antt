@@ -1,4 +1,4 @@
-use Rattle.std.proofs.Common.{◌∙◌, sym, ap, refl}
+use Rattle.std.proofs.Common.{◌∙◌, sym, refl}
 use Rattle.vch_state.proofs.LetsGoEvent.{let_go_there, let_go_counts, let_go_follows, claims_few}
 use Rattle.vch_state.proofs.let_go.let_go.Goals as goal
 

@@ -1,4 +1,4 @@
-use Rattle.std.proofs.Common.{◌∙◌, sym, ap, refl}
+use Rattle.std.proofs.Common.{◌∙◌, sym, refl}
 use Rattle.vch_state.proofs.RechecksEvent.{recheck_releasing, recheck_within, recheck_follows}
 use Rattle.vch_state.proofs.recheck.recheck.Goals as goal
 

@@ -1,5 +1,5 @@
 use Rattle.vch_model.specs.declared.call.Line.{Line}
-use Rattle.vch_model.specs.UserOnly.{IsUserCall, IsUserLines}
+use Rattle.vch_model.specs.UserOnly.{IsUserCall}
 use Rattle.vch_state.proofs.UserRecords.{AllRest}
 use Rattle.vch_state.proofs.user_only.are_user_lines.Given as goal
 

@@ -1,6 +1,5 @@
 use Rattle.std.proofs.Common.{refl, arith}
-use Rattle.vch_model.specs.declared.call.Line.{Line}
-use Rattle.vch_model.specs.UserOnly.{IsUserCall, IsUserLines}
+use Rattle.vch_model.specs.UserOnly.{IsUserLines}
 use Rattle.vch_state.proofs.UserRecords.{rest_more, rest_not, rest_all, tested, refuted}
 use Rattle.vch_state.proofs.user_only.is_user_only.Goals as goal
 

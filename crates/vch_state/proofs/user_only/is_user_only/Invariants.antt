@@ -1,5 +1,4 @@
-use Rattle.vch_model.specs.declared.call.Line.{Line}
-use Rattle.vch_model.specs.UserOnly.{IsUserCall, IsUserLines}
+use Rattle.vch_model.specs.UserOnly.{IsUserLines}
 use Rattle.vch_state.proofs.UserRecords.{AllRest}
 use Rattle.vch_state.proofs.user_only.is_user_only.Given as goal
 
