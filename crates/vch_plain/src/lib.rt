@@ -1,0 +1,8 @@
+//! A run of a scenario in turn on plain lists.
+#![tactic(auto)]
+
+mod names;
+mod state;
+mod values;
+
+pub use state::{Living, Named, Plain, Task};
