@@ -1,0 +1,2 @@
+mod NameRows
+mod LiveRows

@@ -3,7 +3,7 @@ use Rattle.std.specs.Prelude.{ℕ, List, [], ◌∷◌, map, reverse, Option, So
 use Rattle.vch_base.specs.declared.key.Key.TheVariants as keys
 use Rattle.vch_base.specs.declared.value.Value.TheVariants as values
 use Rattle.vch_machine.specs.State as machine
-use Rattle.vch_machine.specs.State.{Handles, Place, Tasked, Tally, Machine, default_living}
+use Rattle.vch_machine.specs.State.{Handles, Place, Pool, Tasked, Tally, Machine, default_living}
 use Rattle.vch_plain.specs.declared.state.Living.{Living}
 use Rattle.vch_plain.specs.declared.state.Named.{Named}
 use Rattle.vch_plain.specs.declared.state.Task.{Task}
@@ -38,6 +38,10 @@ names_of names = map named_of names
 abbrev pub task_of : Task → Tasked
 task_of x = record { names = names_of x.names.items; next = x.next; queue = []; begun = x.begun; frame = None }
 
+-- the handles of user data
+abbrev pub pool_of : List ℕ → ℕ → Pool
+pool_of free used = record { free = reverse free; used = used }
+
 -- the state between calls, with what was counted of claims, references and questions, which nothing looks at
 abbrev pub state_of : Plain → Tally → Machine
 state_of p counted = record {
@@ -45,7 +49,7 @@ state_of p counted = record {
   pools = record {
     importance = record { free = []; used = 0 };
     bank = record { free = []; used = 1 };
-    user = record { free = reverse p.free.items; used = p.used };
+    user = pool_of p.free.items p.used;
   };
   tasks = map task_of p.tasks.items;
   past = reverse p.history.entries;

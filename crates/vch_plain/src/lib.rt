@@ -2,6 +2,7 @@
 #![tactic(auto)]
 
 mod names;
+mod numbers;
 mod state;
 mod values;
 
