@@ -3,6 +3,7 @@
 
 mod names;
 mod numbers;
+mod record;
 mod state;
 mod values;
 
