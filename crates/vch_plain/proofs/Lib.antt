@@ -1,2 +1,3 @@
 mod NameRows
 mod LiveRows
+mod Leading

@@ -1,3 +1,4 @@
 pub mod States
 pub mod Names
 pub mod Records
+pub mod Calls
