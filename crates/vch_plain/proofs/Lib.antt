@@ -1,3 +1,4 @@
 mod NameRows
 mod LiveRows
 mod Leading
+mod Changes

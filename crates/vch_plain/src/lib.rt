@@ -1,6 +1,7 @@
 //! A run of a scenario in turn on plain lists.
 #![tactic(auto)]
 
+mod change;
 mod names;
 mod numbers;
 mod record;
