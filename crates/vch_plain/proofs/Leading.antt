@@ -77,7 +77,7 @@ other_task p counted t u o apart =
     ap (λ (x : Tasked). x.frame) (get_or-set_other (state_of p counted).tasks (t - 1) (u - 1) (record (tasked (state_of p counted) t) { frame = o }) idle apart)
     ∙ no_frame p.tasks.items (u - 1)
 
-task_bounds : (sc : Scenario) (t : ℕ) → is_task sc t ≡ true → (1 ≤ t) × (t ≤ length sc.flags)
+pub task_bounds : (sc : Scenario) (t : ℕ) → is_task sc t ≡ true → (1 ≤ t) × (t ≤ length sc.flags)
 task_bounds sc t e = by_tests t (length sc.flags) e
   where
     by_tests : (a b : ℕ) → (nat_lt 0 a && nat_lt a (b + 1)) ≡ true → (1 ≤ a) × (a ≤ b)

@@ -2,3 +2,7 @@ mod NameRows
 mod LiveRows
 mod Leading
 mod Changes
+mod Going
+mod Held
+mod LettingGo
+mod Outcomes

@@ -1,14 +1,16 @@
 -- How a call goes on: the states of the event machine while it is under way, and the moves in turn between them.
 use Rattle.std.specs.Prelude.{◌≡◌, ℕ, ◌+◌, ◌-◌, nat_lt, true, List, [], length, map, reverse, slice_index_or, Option, Some, None}
+use Rattle.vch_base.specs.declared.key.Key.TheVariants as keys
 use Rattle.vch_model.specs.Lines.{is_task, phases_in}
 use Rattle.vch_model.specs.declared.call.Call.{Call}
 use Rattle.vch_model.specs.declared.lists.Scenario.{Scenario}
 use Rattle.vch_machine.specs.Frames.{closed, with_frame}
+use Rattle.vch_machine.specs.Naming.{item}
 use Rattle.vch_machine.specs.Next.{nth_call}
 use Rattle.vch_machine.specs.PlainRuns.{never}
 use Rattle.vch_machine.specs.Schedules.{run, in_turn}
 use Rattle.vch_machine.specs.State.{Handles, Place, Frame, Tally, Machine}
-use Rattle.vch_plain.specs.States.{state_of}
+use Rattle.vch_plain.specs.States.{state_of, option_voucher}
 use Rattle.vch_plain.specs.declared.state.Plain.{Plain}
 use Rattle.vch_plain.specs.declared.state.Task.{Task}
 
@@ -59,3 +61,7 @@ pub record Goes (t : ℕ) (call : Call) (p : Plain) (before : Left) (q : Plain) 
   pub phases : phases_of q ≡ phases_of p
   pub begins : begins_of q ≡ begins_of p
   pub reaches : (sc : Scenario) (counted : Tally) → Under sc t call (phases_of p) (begins_of p) → Reaches sc (left_in p counted t before) q t after
+
+-- what is left of a call on user data alone: the voucher that is formed, if one is, and a handle to be let go at most
+abbrev pub left_with : Option (Option ℕ) → ℕ → Option ℕ → Left
+left_with forming at left = record { forming = option_voucher forming; at = at; lets = item keys.User left }

@@ -2,6 +2,7 @@
 #![tactic(auto)]
 
 mod change;
+mod give_back;
 mod names;
 mod numbers;
 mod record;
