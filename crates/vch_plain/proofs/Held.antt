@@ -12,7 +12,7 @@ use Rattle.vch_plain.specs.declared.state.Living.{Living}
 use Rattle.vch_plain.specs.declared.state.Plain.{Plain}
 use Rattle.vch_plain.specs.declared.state.Task.{Task}
 
-abbrev with_own : List Task → ℕ → Option Frame → List Tasked
+abbrev pub with_own : List Task → ℕ → Option Frame → List Tasked
 with_own xs i o = set (map task_of xs) i (record (get_or (map task_of xs) i idle) { frame = o })
 
 own_first : (a b d : Bool) → ((a || (false || d)) || b) ≡ (((a || (false || false)) || b) || d)

@@ -6,3 +6,4 @@ mod Going
 mod Held
 mod LettingGo
 mod Outcomes
+mod Carrying
