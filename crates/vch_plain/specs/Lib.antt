@@ -2,3 +2,4 @@ pub mod States
 pub mod Names
 pub mod Records
 pub mod Calls
+pub mod Making

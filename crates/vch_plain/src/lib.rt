@@ -3,6 +3,7 @@
 
 mod change;
 mod give_back;
+mod make;
 mod names;
 mod numbers;
 mod record;
