@@ -29,18 +29,12 @@ use Rattle.vch_machine.specs.Working as working
 use Rattle.vch_machine.specs.Working.{work_first, work_done, size_of}
 use Rattle.vch_plain.specs.States.{state_of, task_of, live_of, pool_of, user_place, user_voucher}
 use Rattle.vch_plain.specs.Calls.{Leads, Under, Left, Reaches, Goes, frame_with, left_in, left_with, phases_of, begins_of}
+use Rattle.vch_plain.specs.Creates.{names_at, create_refused}
 use Rattle.vch_plain.specs.declared.state.Plain.{Plain}
 use Rattle.vch_plain.specs.declared.state.Task.{Task}
 use Rattle.vch_plain.proofs.Leading.{leads_then, own_task}
 use Rattle.vch_plain.proofs.Going.{under_same, begins_by, begun_same, inside, inside_tasks, set_twice, call_event, current_call}
 use Rattle.vch_plain.proofs.Held.{with_own}
-
-abbrev pub names_at : Plain → ℕ → List Named
-names_at p t = (get_or (map task_of p.tasks.items) (t - 1) idle).names
-
--- the entry of a create
-abbrev pub create_refused : Plain → ℕ → ℤ → Entry
-create_refused p t code = entries.Call t (get_or (begins_of p) (t - 1) 0) words.Create (refused code)
 
 -- no claim is there to be changed
 none_on : (g : Claim → Claim) (xs : List Task) → map (on_task g) (map task_of xs) ≡ map task_of xs

@@ -7,3 +7,5 @@ mod Held
 mod LettingGo
 mod Outcomes
 mod Carrying
+mod Creating
+mod Stepping

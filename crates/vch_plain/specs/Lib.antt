@@ -3,3 +3,4 @@ pub mod Names
 pub mod Records
 pub mod Calls
 pub mod Making
+pub mod Creates

@@ -2,6 +2,7 @@
 #![tactic(auto)]
 
 mod change;
+mod create;
 mod give_back;
 mod make;
 mod names;

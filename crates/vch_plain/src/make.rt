@@ -51,7 +51,7 @@ fn again(live: &[Living], handle: u64) -> Option<u64>
 }
 
 /// What the previous voucher has, or the map itself where a record names no voucher.
-fn previous_handle(names: &[Named], previous: u32, handle: Option<u64>) -> Option<u64>
+pub fn previous_handle(names: &[Named], previous: u32, handle: Option<u64>) -> Option<u64>
     ensures { user_voucher result ≡ previous_of (names_of names.now) (user_voucher handle) previous }
 {
     if previous == 0 {

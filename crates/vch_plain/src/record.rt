@@ -1,4 +1,4 @@
-ghost use Rattle.std.specs.Prelude.{◌≡◌, ℕ, List, if◌then◌else◌, Some, None, false};
+ghost use Rattle.std.specs.Prelude.{◌≡◌, ℕ, List, if◌then◌else◌, Some, None, true, false};
 ghost use Rattle.vch_base.specs.declared.key.Key.TheVariants as keys;
 ghost use Rattle.vch_recipe.specs.Recipes.{One};
 ghost use Rattle.vch_model.specs.Legal.{asks};
@@ -130,7 +130,8 @@ pub fn work(
 
 /// Whether a record asks a manager, which is that of user data then.
 pub fn asks_user(names: &[Named], key: u32, command: u32, previous: u32) -> bool
-    ensures { (content : List ℕ) → asks_other (record { key = key; command = command; previous = previous; content = content }) ≡ false
+    ensures user { result ≡ true → key ≡ 7 }
+    ensures asks { (content : List ℕ) → asks_other (record { key = key; command = command; previous = previous; content = content }) ≡ false
         → result ≡ asks (known_name (names_of names.now)) (record { key = key; command = command; previous = previous; content = content }) }
 {
     (previous == 0 || voucher_of(names, u64::from(previous)).is_some()) && command > 5 && key == 7
