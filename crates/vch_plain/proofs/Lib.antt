@@ -9,3 +9,5 @@ mod Outcomes
 mod Carrying
 mod Creating
 mod Stepping
+mod Naming
+mod Coming

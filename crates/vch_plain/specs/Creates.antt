@@ -1,5 +1,6 @@
 -- One record of a create, as the code answers it.
-use Rattle.std.specs.Prelude.{◌≡◌, ◌<◌, ◌≤◌, ◌-◌, ℕ, List, [], drop, length, map, slice_index_or, Option, Some, None, Result, Ok, Err, ℤ}
+use Rattle.std.specs.Prelude.{◌≡◌, ◌<◌, ◌≤◌, ◌-◌, ℕ, Bool, if◌then◌else◌, List, [], drop, length, map, slice_index_or, Option, Some, None, Result, Ok, Err, ℤ, pos}
+use Rattle.std.specs.List.{list_any}
 use Rattle.vch_base.specs.declared.key.Key.TheVariants as keys
 use Rattle.vch_base.specs.declared.value.Value.{Value}
 use Rattle.vch_recipe.specs.Recipes.{One}
@@ -11,14 +12,16 @@ use Rattle.vch_model.specs.declared.call.Call.TheVariants as calls
 use Rattle.vch_model.specs.declared.call.Word.TheVariants as words
 use Rattle.vch_model.specs.declared.entry.Entry.{Entry}
 use Rattle.vch_model.specs.declared.entry.Entry.TheVariants as entries
+use Rattle.vch_model.specs.declared.entry.Reply.{Reply}
+use Rattle.vch_model.specs.declared.entry.Reply.TheVariants as replies
 use Rattle.vch_machine.specs.Frames.{noted}
 use Rattle.vch_machine.specs.Making.{previous_of}
-use Rattle.vch_machine.specs.Naming.{item}
-use Rattle.vch_machine.specs.State.{Named, Tally, idle, of_key, value_at}
+use Rattle.vch_machine.specs.Naming.{item, handles_of, name_for, name_of, one_less, task_knows, with_name}
+use Rattle.vch_machine.specs.State.{Named, Tally, Tasked, idle, of_key, tasked, value_at, with_tasked}
 use Rattle.vch_machine.specs.Working.{work_first}
 use Rattle.vch_plain.specs.Calls.{Goes, begins_of, left_with}
 use Rattle.vch_plain.specs.Making.{IsHanded}
-use Rattle.vch_plain.specs.States.{state_of, task_of, live_of, user_voucher}
+use Rattle.vch_plain.specs.States.{state_of, task_of, live_of, option_voucher, user_voucher}
 use Rattle.vch_plain.specs.declared.create.Went.{Went}
 use Rattle.vch_plain.specs.declared.state.Plain.{Plain}
 
@@ -63,3 +66,44 @@ IsStep t bytes p at handle None q = Goes t (calls.Create bytes) p (left_with (So
 IsStep t bytes p at handle (Some w) q =
     Goes t (calls.Create bytes) p (left_with (Some handle) at None) q (left_with (Some w.handle) w.next w.left)
     × (w.next ≤ length bytes) × (at < w.next) × AsksUserOnly (drop w.next bytes)
+
+-- a voucher that names have already leaves its handle to be let go
+abbrev pub left_if : Bool → Option ℕ → Option ℕ
+left_if known handle = if known then handle else None
+
+-- a name of some task has the voucher
+abbrev pub is_named : Plain → Option ℕ → Bool
+is_named p handle = list_any (task_knows (user_voucher handle)) (map task_of p.tasks.items)
+
+-- the task with a name for a voucher of user data
+abbrev pub given_name : Option ℕ → Tasked → Tasked
+given_name handle x = with_name x (user_voucher handle) (name_of x.names (user_voucher handle))
+
+-- the voucher of a create got a name, the create was answered, and this is left to be let go; mid is after it got the name
+abbrev pub IsFinished : Plain → ℕ → Option ℕ → Option ℕ → Plain → Type 0
+IsFinished p t handle left q =
+    (mid : Plain) × (left ≡ left_if (is_named p handle) handle)
+    × ((c : Tally) → state_of mid c ≡ with_tasked (state_of p c) t (given_name handle (tasked (state_of p c) t)))
+    × ((c : Tally) → state_of q c ≡ noted (state_of mid c)
+    (entries.Call t (slice_index_or (begins_of mid) (t - 1) 0) words.Create (replies.Created (name_for (tasked (state_of p c) t) (name_of (tasked (state_of p c) t).names (user_voucher handle))))))
+
+-- the task with one reference less to a name
+abbrev pub lost_name : ℕ → Tasked → Tasked
+lost_name name x = record x { names = one_less x.names name }
+
+-- a voucher that no name has any more leaves its handle to be let go
+abbrev pub left_of : Plain → Option (Option ℕ) → Option ℕ
+left_of p None = None
+left_of p (Some handle) = if is_named p handle then None else handle
+
+abbrev pub reply_found : Option (Option ℕ) → Reply
+reply_found None = refused (pos 15)
+reply_found (Some handle) = replies.Done
+
+-- a name of a task lost a reference, which was answered, and this is left to be let go; mid is after the reference went
+abbrev pub IsLost : Plain → ℕ → ℕ → Option ℕ → Plain → Type 0
+IsLost p t name left q =
+    (found : Option (Option ℕ)) × (mid : Plain) × (option_voucher found ≡ handles_of (names_at p t) name)
+    × ((c : Tally) → state_of mid c ≡ with_tasked (state_of p c) t (lost_name name (tasked (state_of p c) t)))
+    × (left ≡ left_of mid found)
+    × ((c : Tally) → state_of q c ≡ noted (state_of mid c) (entries.Call t (slice_index_or (begins_of mid) (t - 1) 0) words.GiveUp (reply_found found)))

@@ -21,7 +21,8 @@ use vch_model::{Entry, Reply, Word};
 /// A call of a task is answered.
 pub fn answer(plain: &mut Plain, task: u32, word: Word, reply: Reply) -> Result<(), NoMemory>
     requires task { (1 ≤ task) × (task ≤ length plain.old.tasks.items) }
-    ensures { (counted : Tally) → OnOk result (state_of plain.new counted ≡ noted (state_of plain.old counted) (Entry.Call task (slice_index_or (begins_of plain.old) (task - 1) 0) word reply)) }
+    ensures long { OnOk result (length plain.new.tasks.items ≡ length plain.old.tasks.items) }
+    ensures state { (counted : Tally) → OnOk result (state_of plain.new counted ≡ noted (state_of plain.old counted) (Entry.Call task (slice_index_or (begins_of plain.old) (task - 1) 0) word reply)) }
 {
     let number = narrow(plain.tasks[task as usize - 1].begun)?;
     plain.history.reserve(1)?;
@@ -37,7 +38,8 @@ pub fn answer(plain: &mut Plain, task: u32, word: Word, reply: Reply) -> Result<
 /// One more call of a task is begun.
 pub fn begin(plain: &mut Plain, task: u32) -> Result<(), NoMemory>
     requires task { (1 ≤ task) × (task ≤ length plain.old.tasks.items) }
-    ensures { (counted : Tally) → OnOk result (state_of plain.new counted ≡ with_tasked (state_of plain.old counted) task (begun_one (tasked (state_of plain.old counted) task))) }
+    ensures long { OnOk result (length plain.new.tasks.items ≡ length plain.old.tasks.items) }
+    ensures state { (counted : Tally) → OnOk result (state_of plain.new counted ≡ with_tasked (state_of plain.old counted) task (begun_one (tasked (state_of plain.old counted) task))) }
 {
     let own = &mut plain.tasks[task as usize - 1];
     own.begun = after(own.begun)?;
@@ -66,6 +68,7 @@ fn named(own: &mut Task, handle: Option<u64>) -> Result<u64, NoMemory>
 /// A task gets a name for a voucher, and this is the name.
 pub fn give_name(plain: &mut Plain, task: u32, handle: Option<u64>) -> Result<u64, NoMemory>
     requires task { (1 ≤ task) × (task ≤ length plain.old.tasks.items) }
+    ensures long { OnOk result (length plain.new.tasks.items ≡ length plain.old.tasks.items) }
     ensures name { (counted : Tally) → IfOk result (λ name. name ≡ naming.name_for (tasked (state_of plain.old counted) task) (naming.name_of (tasked (state_of plain.old counted) task).names (user_voucher handle))) }
     ensures state { (counted : Tally) → OnOk result (state_of plain.new counted ≡ with_tasked (state_of plain.old counted) task (naming.with_name (tasked (state_of plain.old counted) task) (user_voucher handle) (naming.name_of (tasked (state_of plain.old counted) task).names (user_voucher handle)))) }
 {
@@ -75,7 +78,8 @@ pub fn give_name(plain: &mut Plain, task: u32, handle: Option<u64>) -> Result<u6
 /// A task has one reference less to a name.
 pub fn drop_name(plain: &mut Plain, task: u32, name: u64)
     requires task { (1 ≤ task) × (task ≤ length plain.old.tasks.items) }
-    ensures { (counted : Tally) → state_of plain.new counted ≡ with_tasked (state_of plain.old counted) task (record (tasked (state_of plain.old counted) task) { names = naming.one_less (tasked (state_of plain.old counted) task).names name }) }
+    ensures long { length plain.new.tasks.items ≡ length plain.old.tasks.items }
+    ensures state { (counted : Tally) → state_of plain.new counted ≡ with_tasked (state_of plain.old counted) task (record (tasked (state_of plain.old counted) task) { names = naming.one_less (tasked (state_of plain.old counted) task).names name }) }
 {
     one_less(&mut plain.tasks[task as usize - 1].names, name);
 }

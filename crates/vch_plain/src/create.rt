@@ -1,10 +1,15 @@
-ghost use Rattle.std.specs.Prelude.{◌≡◌, ◌<◌, ◌≤◌, ℕ, List, drop, length, map, IfOk, OnOk};
+ghost use Rattle.std.specs.Prelude.{◌≡◌, ◌<◌, ◌≤◌, ℕ, List, drop, length, None, Some, IfOk, OnOk};
 ghost use Rattle.vch_model.specs.UserOnly.{AsksUserOnly, asks_other};
-ghost use Rattle.vch_plain.specs.Creates.{IsAsked, IsRefused, IsStep, IsWorked, names_at};
+ghost use Rattle.vch_model.specs.declared.call.Call.TheVariants as calls;
+ghost use Rattle.vch_plain.specs.Calls.{Goes, left_with};
+ghost use Rattle.vch_plain.specs.Creates.{IsAsked, IsFinished, IsRefused, IsStep, IsWorked, names_at};
 ghost use Rattle.vch_plain.specs.States.{names_of};
 
-use crate::change::answer;
+use crate::change::{answer, give_name};
+use crate::give_back::let_go;
 use crate::make::{Made, make, previous_handle};
+use crate::names::knows;
+use crate::numbers::narrow;
 use crate::record::{asks_user, work};
 use crate::state::{Named, Plain};
 use std::alloc::Global;
@@ -21,7 +26,7 @@ pub struct Went {
 }
 
 /// The names of a task.
-fn names(plain: &Plain, task: u32) -> &[Named]
+pub fn names(plain: &Plain, task: u32) -> &[Named]
     requires task { (1 ≤ task) × (task ≤ length plain.now.tasks.items) }
     ensures { names_of result.now ≡ names_at plain.now task }
 {
@@ -129,4 +134,41 @@ fn step(
             Ok(None)
         }
     }
+}
+
+/// The voucher of a create gets a name, and the create is answered. What is answered here is a handle to be let go: that of
+/// a voucher that was there before.
+fn finish(plain: &mut Plain, task: u32, handle: Option<u64>) -> Result<Option<u64>, NoMemory>
+    requires task { (1 ≤ task) × (task ≤ length plain.old.tasks.items) }
+    ensures { IfOk result (λ left. IsFinished plain.old task handle left plain.new) }
+{
+    let known = knows(plain.tasks.as_slice(), handle);
+    let name = narrow(give_name(plain, task, handle)?)?;
+    answer(plain, task, Word::Create, Reply::Created { name })?;
+    Ok(if known { handle } else { None })
+}
+
+/// The records of a create one by one, each with what it lets go; then the voucher gets its name.
+pub fn carry_out(
+    plain: &mut Plain,
+    alloc: Global,
+    task: u32,
+    bytes: &[u8],
+) -> Result<(), NoMemory>
+    requires task { (1 ≤ task) × (task ≤ length plain.old.tasks.items) }
+    requires user { AsksUserOnly bytes.now }
+    ensures { OnOk result (Goes task (calls.Create bytes.now) plain.old (left_with (Some None) 0 None) plain.new (left_with None 0 None)) }
+{
+    let mut at = 0;
+    let mut handle = None;
+    while at < bytes.len() {
+        let Some(went) = step(plain, alloc, task, bytes, at, handle)? else {
+            return let_go(plain, None, handle);
+        };
+        let_go(plain, Some(went.handle), went.left)?;
+        at = went.next;
+        handle = went.handle;
+    }
+    let left = finish(plain, task, handle)?;
+    let_go(plain, None, left)
 }

@@ -4,6 +4,7 @@
 mod change;
 mod create;
 mod give_back;
+mod give_up;
 mod make;
 mod names;
 mod numbers;
