@@ -59,7 +59,7 @@ leads_move sc m k choice over turn e = record { steps = 1; run = λ rest. ap (λ
 
 -- While a call is under way, its task alone has a frame.
 
-no_frame : (xs : List Task) (i : ℕ) → (get_or (map states.task_of xs) i idle).frame ≡ None
+pub no_frame : (xs : List Task) (i : ℕ) → (get_or (map states.task_of xs) i idle).frame ≡ None
 no_frame [] i = refl
 no_frame (x ∷ xs) zero = refl
 no_frame (x ∷ xs) (suc i) = no_frame xs i

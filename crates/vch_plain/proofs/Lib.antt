@@ -11,3 +11,6 @@ mod Creating
 mod Stepping
 mod Naming
 mod Coming
+mod Beginning
+mod Served
+mod Turns

@@ -4,3 +4,4 @@ pub mod Records
 pub mod Calls
 pub mod Making
 pub mod Creates
+pub mod Serving

@@ -9,6 +9,7 @@ mod make;
 mod names;
 mod numbers;
 mod record;
+mod serve;
 mod state;
 mod values;
 
