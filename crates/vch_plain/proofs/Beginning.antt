@@ -35,7 +35,7 @@ use Rattle.vch_plain.proofs.Going.{begins_by, begun_same}
 use Rattle.vch_plain.proofs.Naming.{Quiet, begins_stay, replied_with}
 
 -- between calls no task has a frame
-none_open : (p : Plain) (c : Tally) (ts : List ℕ) → lowest_open (state_of p c) ts ≡ None
+pub none_open : (p : Plain) (c : Tally) (ts : List ℕ) → lowest_open (state_of p c) ts ≡ None
 none_open p c [] = refl
 none_open p c (t ∷ ts) = let e : (tasked (state_of p c) t).frame ≡ None = no_frame p.tasks.items (t - 1) in rw e (none_open p c ts)
 
@@ -87,12 +87,12 @@ begun_begins p t mid b = sym (seen mid.tasks.items) ∙ (ap (λ (m : Machine). m
     one (x ∷ xs) zero = ap (λ ns. (x.begun + 1) ∷ ns) (seen xs)
     one (x ∷ xs) (suc i) = ap (λ ns. x.begun ∷ ns) (one xs i)
 
-get_set : (xs : List ℕ) (i x : ℕ) → i < length xs → get_or (set xs i x) i 0 ≡ x
+pub get_set : (xs : List ℕ) (i x : ℕ) → i < length xs → get_or (set xs i x) i 0 ≡ x
 get_set [] i x l = absurd (omega (arith, l))
 get_set (y ∷ xs) zero x l = refl
 get_set (y ∷ xs) (suc i) x l = get_set xs i x (omega (arith, l))
 
-set_long : (xs : List ℕ) (i x : ℕ) → length (set xs i x) ≡ length xs
+pub set_long : (xs : List ℕ) (i x : ℕ) → length (set xs i x) ≡ length xs
 set_long [] i x = refl
 set_long (y ∷ xs) zero x = refl
 set_long (y ∷ xs) (suc i) x = ap suc (set_long xs i x)

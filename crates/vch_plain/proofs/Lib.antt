@@ -14,3 +14,4 @@ mod Coming
 mod Beginning
 mod Served
 mod Turns
+mod Playing

@@ -43,3 +43,8 @@ pub record IsAt (sc : Scenario) (phase line : ℕ) (p : Plain) : Type 0 where
 -- the run in turn came from one state between calls to another
 abbrev pub Comes : Scenario → Plain → Plain → Type 0
 Comes sc p q = (counted : Tally) → Arrives sc (state_of p counted) q
+
+-- the run came from one state between calls to another, and so far in the scenario
+pub record Came (sc : Scenario) (phase line : ℕ) (p q : Plain) : Type 0 where
+  pub at : IsAt sc phase line q
+  pub comes : Comes sc p q

@@ -8,9 +8,10 @@ mod give_up;
 mod make;
 mod names;
 mod numbers;
+mod play;
 mod record;
 mod serve;
 mod state;
 mod values;
 
-pub use state::{Living, Named, Plain, Task};
+pub use play::play_plain;
