@@ -43,6 +43,7 @@ pub mod PlaceSteps
 pub mod Places
 pub mod Possible
 pub mod PutSpots
+pub mod RecordPlaces
 pub mod Records
 pub mod ReferSpots
 pub mod Refusals

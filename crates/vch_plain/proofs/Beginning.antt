@@ -1,0 +1,119 @@
+-- A call begins, and what it does at once.
+use Rattle.std.proofs.Common.{◌≡◌, ℕ, zero, suc, ◌+◌, ◌-◌, ◌<◌, ◌≤◌, ◌==◌, nat_lt, Bool, true, false, not, ◌||◌, List, [], ◌∷◌, refl, arith, sym, ap, ◌∙◌, subst, length, map, get_or, cond, Option, Some, None, pos, negsuc}
+use Rattle.std.specs.Prelude.{is_some, if◌then◌else◌}
+use Rattle.std.proofs.Math.ListN.{set}
+use Rattle.std.proofs.lemmas.Grind.{common_steps}
+use Rattle.vch_base.specs.declared.key.Key.TheVariants as keys
+use Rattle.vch_base.specs.declared.kind.Kind.TheVariants as kinds
+use Rattle.vch_model.specs.Eval.{create}
+use Rattle.vch_model.specs.Lines.{phases_in, is_task, lines_until}
+use Rattle.vch_model.specs.Replies.{refused, created, given_up}
+use Rattle.vch_model.specs.Store as store
+use Rattle.vch_model.specs.Totals.{named_voucher}
+use Rattle.vch_model.specs.Words.{word_of}
+use Rattle.vch_model.specs.declared.call.Call.{Call}
+use Rattle.vch_model.specs.declared.call.Call.TheVariants as calls
+use Rattle.vch_model.specs.declared.entry.Entry.TheVariants as entries
+use Rattle.vch_model.specs.declared.entry.Reply.{Reply}
+use Rattle.vch_model.specs.declared.entry.Reply.TheVariants as replies
+use Rattle.vch_model.specs.declared.lists.Scenario.{Scenario}
+use Rattle.vch_machine.specs.Beginning.{begun_one, begin_call, begin_line, do_begin, store_reply, dropped, leaving_frame, fresh_frame}
+use Rattle.vch_machine.specs.Events.{event, event_of, numbers}
+use Rattle.vch_machine.specs.Frames.{closed, with_frame, noted, replied}
+use Rattle.vch_machine.specs.Naming.{handles_of, orphaned, is_known, places, item}
+use Rattle.vch_machine.specs.Next.{nth_call, task_next}
+use Rattle.vch_machine.specs.Schedules.{first_waiting, lowest_open, turn_task}
+use Rattle.vch_machine.specs.State.{Handles, Living, Named, Frame, Tally, Tasked, Machine, no_tally, idle, tasked, with_tasked, named_of}
+use Rattle.vch_plain.specs.Calls.{Leads, Under, Left, Goes, left_with, left_in, frame_with, phases_of, begins_of}
+use Rattle.vch_plain.specs.Creates.{names_at, lost_name, is_named, left_of, reply_found, IsLost}
+use Rattle.vch_plain.specs.Serving.{IsNextCall, Arrives, Serves}
+use Rattle.vch_plain.specs.States.{state_of, task_of, user_voucher, option_voucher}
+use Rattle.vch_plain.specs.declared.state.Plain.{Plain}
+use Rattle.vch_plain.specs.declared.state.Task.{Task}
+use Rattle.vch_plain.proofs.Leading.{leads_then, leads_move, no_frame, task_bounds}
+use Rattle.vch_plain.proofs.Going.{begins_by, begun_same}
+use Rattle.vch_plain.proofs.Naming.{Quiet, begins_stay, replied_with}
+
+-- between calls no task has a frame
+pub none_open : (p : Plain) (c : Tally) (ts : List ℕ) → lowest_open (state_of p c) ts ≡ None
+none_open p c [] = refl
+none_open p c (t ∷ ts) = let e : (tasked (state_of p c) t).frame ≡ None = no_frame p.tasks.items (t - 1) in rw e (none_open p c ts)
+
+-- a task that begins its next call
+begins_next : (sc : Scenario) (p : Plain) (c : Tally) (t : ℕ) (call : Call) → IsNextCall sc t call p
+    → event sc false (state_of p c) t ≡ Some (begin_call sc false (with_tasked (state_of p c) t (begun_one (tasked (state_of p c) t))) t call (store_reply sc (state_of p c) t call))
+unfolding event
+begins_next sc p c t call n =
+    let e : (tasked (state_of p c) t).frame ≡ None = no_frame p.tasks.items (t - 1) in
+    let may : nat_lt (tasked (state_of p c) t).begun (lines_until sc (phases_of p + 1) t) ≡ true = ap (λ k. nat_lt k (lines_until sc (phases_of p + 1) t)) (begun_same p c t) ∙ n.may in
+    let nth : nth_call sc t ((tasked (state_of p c) t).begun + 1) ≡ Some call = ap (λ k. nth_call sc t (k + 1)) (begun_same p c t) ∙ n.nth in
+    rw n.task (by_frame (tasked (state_of p c) t).frame e (kind (tasked (state_of p c) t).frame e may) nth)
+  where
+    kind : (o : Option Frame) → o ≡ None → nat_lt (tasked (state_of p c) t).begun (lines_until sc (phases_of p + 1) t) ≡ true → task_next sc (phases_of p) t (tasked (state_of p c) t) o ≡ Some kinds.Begin
+    kind None e m = rw m refl
+    kind (Some f) e m = cc
+
+    by_frame : (o : Option Frame) → o ≡ None → task_next sc (phases_of p) t (tasked (state_of p c) t) o ≡ Some kinds.Begin
+        → nth_call sc t ((tasked (state_of p c) t).begun + 1) ≡ Some call
+        → event_of sc false (state_of p c) t o (task_next sc (phases_of p) t (tasked (state_of p c) t) o)
+        ≡ Some (begin_call sc false (with_tasked (state_of p c) t (begun_one (tasked (state_of p c) t))) t call (store_reply sc (state_of p c) t call))
+    by_frame None e k nth = rw (k, nth) refl
+    by_frame (Some f) e k nth = cc
+
+pub begin_leads : (sc : Scenario) (p : Plain) (c : Tally) (t : ℕ) (call : Call) (n : Machine) → IsNextCall sc t call p
+    → begin_call sc false (with_tasked (state_of p c) t (begun_one (tasked (state_of p c) t))) t call (store_reply sc (state_of p c) t call) ≡ n → Leads sc (state_of p c) n
+begin_leads sc p c t call n next e =
+    leads_move sc (state_of p c) n (Some t) (ap not next.more) (ap (turn_task sc (state_of p c)) (none_open p c (numbers (length sc.flags))) ∙ next.turn c)
+    (begins_next sc p c t call next ∙ ap Some e)
+
+-- One call more is begun.
+
+pub record IsBegun (p : Plain) (t : ℕ) (mid : Plain) : Type 0 where
+  pub state : (c : Tally) → state_of mid c ≡ with_tasked (state_of p c) t (begun_one (tasked (state_of p c) t))
+
+pub begun_phases : (p : Plain) (t : ℕ) (mid : Plain) → IsBegun p t mid → phases_of mid ≡ phases_of p
+begun_phases p t mid b = ap (λ (m : Machine). phases_in m.past) (b.state no_tally)
+
+pub begun_begins : (p : Plain) (t : ℕ) (mid : Plain) → IsBegun p t mid → begins_of mid ≡ set (begins_of p) (t - 1) (get_or (begins_of p) (t - 1) 0 + 1)
+begun_begins p t mid b = sym (seen mid.tasks.items) ∙ (ap (λ (m : Machine). map (λ (x : Tasked). x.begun) m.tasks) (b.state no_tally) ∙ one p.tasks.items (t - 1))
+  where
+    seen : (xs : List Task) → map (λ (x : Tasked). x.begun) (map task_of xs) ≡ map (λ (x : Task). x.begun) xs
+    seen [] = refl
+    seen (x ∷ xs) = ap (λ ns. x.begun ∷ ns) (seen xs)
+
+    one : (xs : List Task) (i : ℕ) → map (λ (x : Tasked). x.begun) (set (map task_of xs) i (begun_one (get_or (map task_of xs) i idle)))
+        ≡ set (map (λ (x : Task). x.begun) xs) i (get_or (map (λ (x : Task). x.begun) xs) i 0 + 1)
+    one [] i = refl
+    one (x ∷ xs) zero = ap (λ ns. (x.begun + 1) ∷ ns) (seen xs)
+    one (x ∷ xs) (suc i) = ap (λ ns. x.begun ∷ ns) (one xs i)
+
+pub get_set : (xs : List ℕ) (i x : ℕ) → i < length xs → get_or (set xs i x) i 0 ≡ x
+get_set [] i x l = absurd (omega (arith, l))
+get_set (y ∷ xs) zero x l = refl
+get_set (y ∷ xs) (suc i) x l = get_set xs i x (omega (arith, l))
+
+pub set_long : (xs : List ℕ) (i x : ℕ) → length (set xs i x) ≡ length xs
+set_long [] i x = refl
+set_long (y ∷ xs) zero x = refl
+set_long (y ∷ xs) (suc i) x = ap suc (set_long xs i x)
+
+pub next_within : (sc : Scenario) (t : ℕ) (call : Call) (p : Plain) → IsNextCall sc t call p → t - 1 < length (begins_of p)
+next_within sc t call p n = let b = task_bounds sc t n.task in let b0 = b.0 in let b1 = b.1 in let l = n.long in omega (arith, b0, b1, l)
+
+-- the call is under way then
+pub begun_under : (sc : Scenario) (t : ℕ) (call : Call) (p mid : Plain) → IsNextCall sc t call p → IsBegun p t mid → Under sc t call (phases_of mid) (begins_of mid)
+begun_under sc t call p mid n b = subst (λ k. Under sc t call k (begins_of mid)) (sym (begun_phases p t mid b)) (subst (Under sc t call (phases_of p)) (sym (begun_begins p t mid b)) (record {
+  task = n.task;
+  long = set_long (begins_of p) (t - 1) (get_or (begins_of p) (t - 1) 0 + 1) ∙ n.long;
+  more = n.more;
+  nth = ap (nth_call sc t) (get_set (begins_of p) (t - 1) (get_or (begins_of p) (t - 1) 0 + 1) (next_within sc t call p n)) ∙ n.nth;
+}))
+
+-- between calls the frame is none
+pub no_frame_set : (p : Plain) (c : Tally) (t : ℕ) → with_frame (state_of p c) t None ≡ state_of p c
+no_frame_set p c t = ap (λ (tasks : List Tasked). record (state_of p c) { tasks = tasks }) (by_place p.tasks.items (t - 1))
+  where
+    by_place : (xs : List Task) (i : ℕ) → set (map task_of xs) i (record (get_or (map task_of xs) i idle) { frame = None }) ≡ map task_of xs
+    by_place [] i = refl
+    by_place (x ∷ xs) zero = refl
+    by_place (x ∷ xs) (suc i) = ap (λ (ys : List Tasked). task_of x ∷ ys) (by_place xs i)

@@ -1,0 +1,60 @@
+-- Who holds a handle, expects it or claims it while one call is under way.
+use Rattle.std.proofs.Common.{◌≡◌, ℕ, zero, suc, ◌-◌, ◌<◌, Bool, true, false, List, [], ◌∷◌, ◌++◌, ◌&&◌, ◌||◌, refl, arith, sym, ap, ◌∙◌, length, map, get_or, Option, Some, None, cond}
+use Rattle.std.specs.Prelude.{◌==◌}
+use Rattle.std.proofs.Math.ListN.{set}
+use Rattle.std.specs.List.{list_any, flat_map}
+use Rattle.vch_machine.specs.Frames.{with_frame}
+use Rattle.vch_machine.specs.Leaving.{is_fixed, is_fixed_value}
+use Rattle.vch_machine.specs.Naming.{is_known, task_knows}
+use Rattle.vch_machine.specs.State.{Handles, Named, has_place, Place, Claim, Frame, Tally, Tasked, idle, tasked, living_at, task_holds, frame_holds, frame_expects, frame_claims, is_held, is_expected, claims_on}
+use Rattle.vch_plain.specs.States.{state_of, task_of, live_of, living_of, user_place}
+use Rattle.vch_plain.specs.declared.state.Living.{Living}
+use Rattle.vch_plain.specs.declared.state.Plain.{Plain}
+use Rattle.vch_plain.specs.declared.state.Task.{Task}
+
+abbrev pub with_own : List Task → ℕ → Option Frame → List Tasked
+with_own xs i o = set (map task_of xs) i (record (get_or (map task_of xs) i idle) { frame = o })
+
+own_first : (a b d : Bool) → ((a || (false || d)) || b) ≡ (((a || (false || false)) || b) || d)
+own_first a b d = grind arith
+
+own_later : (a b d : Bool) → (a || (b || d)) ≡ ((a || b) || d)
+own_later a b d = grind arith
+
+pub held_own : (q : Place) (xs : List Task) (i : ℕ) (o : Option Frame) → i < length xs → list_any (task_holds q) (with_own xs i o) ≡ (list_any (task_holds q) (map task_of xs) || frame_holds o q)
+held_own q [] i o l = absurd (omega (arith, l))
+held_own q (x ∷ xs) zero o l = own_first (list_any (λ (n : Named). has_place n.voucher q) (task_of x).names) (list_any (task_holds q) (map task_of xs)) (frame_holds o q)
+held_own q (x ∷ xs) (suc i) o l = ap (λ b. task_holds q (task_of x) || b) (held_own q xs i o (omega (arith, l))) ∙ own_later (task_holds q (task_of x)) (list_any (task_holds q) (map task_of xs)) (frame_holds o q)
+
+none_expects : (q : Place) (xs : List Task) → list_any (λ (t : Tasked). frame_expects t.frame q) (map task_of xs) ≡ false
+none_expects q [] = refl
+none_expects q (x ∷ xs) = none_expects q xs
+
+pub expects_own : (q : Place) (xs : List Task) (i : ℕ) (f : Frame) → f.receipt ≡ None → list_any (λ (t : Tasked). frame_expects t.frame q) (with_own xs i (Some f)) ≡ false
+expects_own q [] i f e = refl
+expects_own q (x ∷ xs) zero f e = rw e (none_expects q xs)
+expects_own q (x ∷ xs) (suc i) f e = expects_own q xs i f e
+
+none_claims : (q : Place) (xs : List Task) → flat_map (λ (t : Tasked). frame_claims t.frame q) (map task_of xs) ≡ []
+none_claims q [] = refl
+none_claims q (x ∷ xs) = none_claims q xs
+
+pub claims_own : (q : Place) (xs : List Task) (i : ℕ) (f : Frame) → f.claim ≡ None → flat_map (λ (t : Tasked). frame_claims t.frame q) (with_own xs i (Some f)) ≡ []
+claims_own q [] i f e = refl
+claims_own q (x ∷ xs) zero f e = rw e (none_claims q xs)
+claims_own q (x ∷ xs) (suc i) f e = claims_own q xs i f e
+
+pub knows_own : (v : Handles) (xs : List Task) (i : ℕ) (o : Option Frame) → list_any (task_knows v) (with_own xs i o) ≡ list_any (task_knows v) (map task_of xs)
+knows_own v [] i o = refl
+knows_own v (x ∷ xs) zero o = refl
+knows_own v (x ∷ xs) (suc i) o = ap (λ b. task_knows v (task_of x) || b) (knows_own v xs i o)
+
+-- a value of user data is not Default
+pub not_fixed : (live : List Living) (h : ℕ) → is_fixed_value (living_at (live_of live) (user_place h)) ≡ false
+not_fixed [] h = refl
+not_fixed (l ∷ live) h = by_test (l.handle == h) (not_fixed live h)
+  where
+    by_test : (b : Bool) → is_fixed_value (living_at (map living_of live) (user_place h)) ≡ false
+        → is_fixed_value (cond b (Some (living_of l)) (living_at (map living_of live) (user_place h))) ≡ false
+    by_test true e = refl
+    by_test false e = e

@@ -1,0 +1,17 @@
+mod NameRows
+mod LiveRows
+mod Leading
+mod Changes
+mod Going
+mod Held
+mod LettingGo
+mod Outcomes
+mod Carrying
+mod Creating
+mod Stepping
+mod Naming
+mod Coming
+mod Beginning
+mod Served
+mod Turns
+mod Playing

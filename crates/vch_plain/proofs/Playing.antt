@@ -1,0 +1,146 @@
+-- The lines and the phases, one after the other.
+use Rattle.std.proofs.Common.{◌≡◌, ℕ, zero, suc, ◌+◌, ◌-◌, ◌<◌, ◌≤◌, ◌==◌, nat_lt, ◌&&◌, not, Bool, true, false, List, [], ◌∷◌, ◌++◌, refl, arith, sym, ap, ◌∙◌, subst, length, map, take, drop, get_or, reverse, cond, Option, Some, None}
+use Rattle.std.specs.Prelude.{slice_get, is_some}
+use Rattle.std.proofs.Math.ListN.{set}
+use Rattle.std.proofs.lemmas.Grind.{common_steps}
+use Rattle.std.proofs.lemmas.List.{take_all, get_or-set_other}
+use Rattle.std.specs.List.{AllByRecursion}
+use Rattle.vch_model.specs.Legal.{Whole}
+use Rattle.vch_model.specs.Lines.{is_task, phases_in, lines_until}
+use Rattle.vch_model.specs.Scenarios.{IsIn, IsLimited}
+use Rattle.vch_model.specs.UserOnly.{IsUserCall, IsUserOnly}
+use Rattle.vch_model.specs.declared.call.Line.{Line}
+use Rattle.vch_model.specs.declared.entry.Entry.TheVariants as entries
+use Rattle.vch_model.specs.declared.lists.Scenario.{Scenario}
+use Rattle.vch_machine.specs.Events.{ready, numbers, phase_event}
+use Rattle.vch_machine.specs.Frames.{noted}
+use Rattle.vch_machine.specs.Next.{nth_call, next_kind, task_next}
+use Rattle.vch_machine.specs.PlainRuns.{never, IsPlainRun}
+use Rattle.vch_machine.specs.Schedules.{run, run_from_start, in_turn, turn_task, has_ended, first_waiting}
+use Rattle.vch_machine.specs.State.{Tally, Tasked, Machine, no_tally, start, tasked, is_empty}
+use Rattle.vch_legal.specs.Facts.{bit, times}
+use Rattle.vch_legal.proofs.AtRest.{task_of}
+use Rattle.vch_legal.proofs.PhaseCounts.{lines_with_phase}
+use Rattle.vch_legal.proofs.PhaseLines.{no_lines}
+use Rattle.vch_legal.proofs.Turns.{own_number, all_tasks}
+use Rattle.vch_plain.specs.Calls.{Leads, phases_of, begins_of}
+use Rattle.vch_plain.specs.Serving.{IsNextCall, Arrives, Serves, IsAt, Comes, Came}
+use Rattle.vch_plain.specs.States as states
+use Rattle.vch_plain.specs.States.{state_of}
+use Rattle.vch_plain.specs.declared.state.Plain.{Plain}
+use Rattle.vch_plain.proofs.Leading.{leads_self, leads_then, leads_move, no_frame, task_bounds}
+use Rattle.vch_plain.proofs.Going.{begins_by, begun_same}
+use Rattle.vch_plain.proofs.Beginning.{none_open, get_set, set_long}
+use Rattle.vch_plain.proofs.Turns.{next_call, Passed, waits, waits_none, split_at, one_more, few_taken}
+
+abbrev of : ℕ → List Line → ℕ
+of t lines = times (λ (l : Line). l.task == t) lines
+
+of_phase : (P : Line → Type 0) (phases : List (List Line)) (p : ℕ) → AllByRecursion (λ lines. AllByRecursion P lines) phases → AllByRecursion P (get_or phases p [])
+of_phase P [] p h = tt
+of_phase P (lines ∷ phases) zero h = h.0
+of_phase P (lines ∷ phases) (suc p) h = of_phase P phases p h.1
+
+of_line : (P : Line → Type 0) (lines : List Line) (i : ℕ) (line : Line) → AllByRecursion P lines → slice_get lines i ≡ Some line → P line
+of_line P [] i line h e = cc
+of_line P (x ∷ lines) zero line h e = let z : x ≡ line = cc in subst P z h.0
+of_line P (x ∷ lines) (suc i) line h e = of_line P lines i line h.1 e
+
+taken : (P : Line → Type 0) (lines : List Line) (i : ℕ) → AllByRecursion P lines → AllByRecursion P (take i lines)
+taken P [] zero h = tt
+taken P [] (suc i) h = tt
+taken P (x ∷ lines) zero h = tt
+taken P (x ∷ lines) (suc i) h = (h.0, taken P lines i h.1)
+
+below : (a b : ℕ) → a < b → nat_lt a b ≡ true
+below a b h = grind (arith, common_steps)
+
+not_below : (a b : ℕ) → b ≤ a → nat_lt a b ≡ false
+not_below a b h = grind (arith, common_steps)
+
+-- the lines so far are passed
+passed_at : (sc : Scenario) (phase i : ℕ) (p : Plain) (c : Tally) → IsAt sc phase i p → Passed sc (state_of p c) [] (take i (get_or sc.phases phase []))
+passed_at sc phase i p c at = record {
+  begun = λ t task. begun_same p c t ∙ (at.begun t task ∙ (ap (λ n. lines_until sc n t + of t (take i (get_or sc.phases phase []))) (sym at.phases) ∙ ap (λ n. lines_until sc (phases_of p) t + n) (plain (of t (take i (get_or sc.phases phase []))))));
+}
+  where
+    plain : (n : ℕ) → n ≡ 0 + n
+    plain n = omega arith
+
+pub next_line : (sc : Scenario) (phase i : ℕ) (p : Plain) (line : Line) → IsLimited sc → phase < length sc.phases → slice_get (get_or sc.phases phase []) i ≡ Some line → IsAt sc phase i p
+    → IsNextCall sc line.task line.call p
+next_line sc phase i p line limited more e at =
+    let all = of_phase (IsIn (length sc.flags)) sc.phases phase limited.lines in
+    let in_line = of_line (IsIn (length sc.flags)) (get_or sc.phases phase []) i line all e in
+    let task : is_task sc line.task ≡ true = task_of sc line.task in_line.0 in_line.1 in
+    let b = at.begun line.task task in
+    record {
+      task = task;
+      long = at.long;
+      more = ap (λ n. nat_lt n (length sc.phases)) at.phases ∙ below phase (length sc.phases) more;
+      turn = λ c.
+          ap (λ n. first_waiting sc (state_of p c) [] (get_or sc.phases n [])) at.phases
+          ∙ (ap (first_waiting sc (state_of p c) []) (split_at (get_or sc.phases phase []) i line e)
+          ∙ waits sc (state_of p c) [] (take i (get_or sc.phases phase [])) (drop (i + 1) (get_or sc.phases phase [])) line (taken (IsIn (length sc.flags)) (get_or sc.phases phase []) i all) task (passed_at sc phase i p c at));
+      may =
+          let d = lines_with_phase sc line.task phase in
+          let f = few_taken line.task (get_or sc.phases phase []) (i + 1) in
+          let g = one_more line.task (get_or sc.phases phase []) i line e in
+          let h : bit (line.task == line.task) ≡ 1 = ap bit (own_number line.task) in
+          ap (λ n. nat_lt (get_or (begins_of p) (line.task - 1) 0) (lines_until sc (n + 1) line.task)) at.phases ∙ below _ _ (omega (arith, b, d, f, g, h));
+      nth = ap (λ n. nth_call sc line.task (n + 1)) b ∙ next_call sc phase i line e;
+    }
+
+-- and it is done
+pub line_done : (sc : Scenario) (phase i : ℕ) (p q : Plain) (line : Line) → IsLimited sc → phase < length sc.phases → slice_get (get_or sc.phases phase []) i ≡ Some line → IsAt sc phase i p
+    → Serves line.task line.call p q → Came sc phase (i + 1) p q
+line_done sc phase i p q line limited more e at s =
+    let n = next_line sc phase i p line limited more e at in
+    record {
+      at = record {
+        phases = s.phases ∙ at.phases;
+        long = ap length s.begins ∙ (set_long (begins_of p) (line.task - 1) (get_or (begins_of p) (line.task - 1) 0 + 1) ∙ at.long);
+        begun = λ t task.
+            ap (λ ns. get_or ns (t - 1) 0) s.begins
+            ∙ (at_task t (line.task == t) refl task n.task
+            ∙ regroup (lines_until sc phase t) (of t (take i (get_or sc.phases phase []))) (bit (line.task == t)) (of t (take (i + 1) (get_or sc.phases phase []))) (one_more t (get_or sc.phases phase []) i line e));
+      };
+      comes = λ c. s.arrives sc c n;
+    }
+  where
+    regroup : (a b d f : ℕ) → f ≡ b + d → (a + b) + d ≡ a + f
+    regroup a b d f h = omega (arith, h)
+
+    at_task : (t : ℕ) (b : Bool) → (line.task == t) ≡ b → is_task sc t ≡ true → is_task sc line.task ≡ true
+        → get_or (set (begins_of p) (line.task - 1) (get_or (begins_of p) (line.task - 1) 0 + 1)) (t - 1) 0 ≡ (lines_until sc phase t + of t (take i (get_or sc.phases phase []))) + bit (line.task == t)
+    at_task t true k task own =
+        let z : line.task ≡ t = same _ _ k in
+        let l = at.long in
+        let d = task_bounds sc t task in let d0 = d.0 in let d1 = d.1 in
+        let x : get_or (set (begins_of p) (line.task - 1) (get_or (begins_of p) (line.task - 1) 0 + 1)) (t - 1) 0 ≡ get_or (begins_of p) (t - 1) 0 + 1 =
+            ap (λ u. get_or (set (begins_of p) (u - 1) (get_or (begins_of p) (u - 1) 0 + 1)) (t - 1) 0) z ∙ get_set (begins_of p) (t - 1) (get_or (begins_of p) (t - 1) 0 + 1) (omega (arith, l, d0, d1)) in
+        let y = at.begun t task in
+        let w : bit (line.task == t) ≡ 1 = ap bit k in
+        omega (arith, x, y, w)
+      where
+        same : (a b : ℕ) → (a == b) ≡ true → a ≡ b
+        same a b h = grind (arith, common_steps)
+    at_task t false k task own =
+        let d = task_bounds sc t task in let f = task_bounds sc line.task own in
+        let apart : t - 1 ≡ line.task - 1 → ⊥ = other t line.task k d.0 f.0 in
+        let x : get_or (set (begins_of p) (line.task - 1) (get_or (begins_of p) (line.task - 1) 0 + 1)) (t - 1) 0 ≡ get_or (begins_of p) (t - 1) 0 = get_or-set_other (begins_of p) (line.task - 1) (t - 1) _ 0 apart in
+        let y = at.begun t task in
+        let w : bit (line.task == t) ≡ 0 = ap bit k in
+        omega (arith, x, y, w)
+      where
+        other : (a b : ℕ) → (b == a) ≡ false → 1 ≤ a → 1 ≤ b → a - 1 ≡ b - 1 → ⊥
+        other a b h k l m = grind (arith, common_steps)
+
+pub came_self : (sc : Scenario) (phase i : ℕ) (p : Plain) → IsAt sc phase i p → Came sc phase i p p
+came_self sc phase i p at = record { at = at; comes = λ c. record { counted = c; leads = leads_self sc (state_of p c) } }
+
+pub came_then : (sc : Scenario) (a b d e : ℕ) (p q r : Plain) → Came sc a b p q → Came sc d e q r → Came sc d e p r
+came_then sc a b d e p q r x y = record {
+  at = y.at;
+  comes = λ c. let i = x.comes c in let j = y.comes i.counted in record { counted = j.counted; leads = leads_then sc (state_of p c) (state_of q i.counted) (state_of r j.counted) i.leads j.leads };
+}

@@ -1,0 +1,7 @@
+use Rattle.std.proofs.Common.{◌≡◌, drop, map}
+use Rattle.vch_machine.specs.Naming as naming
+use Rattle.vch_plain.specs.States.{names_of, user_voucher, user_place}
+use Rattle.vch_plain.proofs.names.name_of.Given as goal
+
+abbrev pub invariant-loop-named : goal.invariant-loop-named
+invariant-loop-named l = naming.name_of (names_of (drop l.named-index l.names)) (user_voucher l.handle) ≡ naming.name_of (names_of l.names) (user_voucher l.handle)
