@@ -1,8 +1,0 @@
-pub mod Creates
-pub mod RowLaws
-pub mod Shapes
-pub mod PlainTotals
-pub mod PlainSteps
-pub mod PlainWhole
-pub mod PlainRuns
-pub mod RowTests

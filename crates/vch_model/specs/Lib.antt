@@ -14,7 +14,4 @@ pub mod TextLines
 pub mod Grammar
 pub mod Scenarios
 pub mod Canonical
-pub mod Built
-pub mod Plain
-pub mod PlainRun
 pub mod UserOnly
