@@ -1,8 +1,12 @@
 //! Runs in an order of single events.
+ghost use Rattle.std.specs.Prelude.{IfOk};
+ghost use Rattle.vch_model.specs.Canonical.{IsWritable};
+
 use std::alloc::Global;
 use std::test::Fail;
 use vch_base::Kind;
 use vch_core::{Stepped, are_tasks, drive, finish, step};
+use vch_model::Scenario;
 use vch_report::report_of;
 use vch_state::{Core, is_user_only};
 
@@ -34,19 +38,31 @@ const ROWS: &[Row] = &[
     },
 ];
 
-/// The report after an order of events and the rest in turn.
-fn ordered(alloc: Global, row: &Row) -> Result<Vec<u8>, Fail> {
-    let Ok(scenario) = vch_scenario::read(alloc, row.scenario) else {
-        return Err(Fail::new("not a scenario of creates and drops, or not an order of it"));
-    };
-    if !is_user_only(&scenario) {
-        return Err(Fail::new("not a scenario of creates and drops, or not an order of it"));
+/// The scenario of some bytes.
+fn scenario_of(alloc: Global, bytes: &[u8]) -> Result<Scenario, Fail>
+    ensures { IfOk result (λ scenario. IsWritable scenario) }
+{
+    if bytes.len() > 4194304 {
+        return Err(Fail::new("too long"));
     }
-    let mut core = Core::start(alloc, &scenario)?;
-    if !are_tasks(&core, row.order) {
-        return Err(Fail::new("not a scenario of creates and drops, or not an order of it"));
+    match vch_scenario::read(alloc, bytes) {
+        Ok(scenario) => Ok(scenario),
+        Err(_) => Err(Fail::new("not a scenario")),
     }
-    drive(&mut core, row.order);
+}
+
+/// The report after an order of events, and the rest in turn.
+fn ordered(alloc: Global, scenario: &Scenario, order: &[u32]) -> Result<Vec<u8>, Fail>
+    requires { IsWritable scenario.now }
+{
+    if !is_user_only(scenario) {
+        return Err(Fail::new("not only creates and drops"));
+    }
+    let mut core = Core::start(alloc, scenario)?;
+    if !are_tasks(&core, order) {
+        return Err(Fail::new("not an order of tasks"));
+    }
+    drive(&mut core, order);
     finish(&mut core);
     let report = report_of(alloc, &core)?;
     Ok(vch_report::write(alloc, &report)?)
@@ -56,7 +72,8 @@ fn ordered(alloc: Global, row: &Row) -> Result<Vec<u8>, Fail> {
 fn worked_orders(rt: HostRuntime) -> Result<(), Fail> {
     let alloc = rt.alloc();
     for row in ROWS {
-        let report = ordered(alloc, row)?;
+        let scenario = scenario_of(alloc, row.scenario)?;
+        let report = ordered(alloc, &scenario, row.order)?;
         assert_eq!(rt; report.as_slice(), row.report.as_bytes());
     }
     Ok(())
@@ -78,31 +95,27 @@ const STEPS: &[(u32, Kind)] = &[
     (2, Kind::Place),
 ];
 
+/// One step of a task.
+fn step_of(core: &mut Core, task: u32) -> Result<Stepped, Fail> {
+    if !is_user_only(core.scenario()) || !are_tasks(core, &[task]) {
+        return Err(Fail::new("not a task of creates and drops"));
+    }
+    Ok(step(core, task))
+}
+
 #[test]
 fn steps_of_the_race(rt: HostRuntime) -> Result<(), Fail> {
     let alloc = rt.alloc();
-    let Ok(scenario) = vch_scenario::read(alloc, ROWS[0].scenario) else {
-        return Err(Fail::new("not a scenario"));
-    };
-    if !is_user_only(&scenario) || scenario.flags.len() != 2 {
-        return Err(Fail::new("not a scenario of creates and drops of two tasks"));
-    }
+    let scenario = scenario_of(alloc, ROWS[0].scenario)?;
     let mut core = Core::start(alloc, &scenario)?;
     for (task, kind) in STEPS {
-        if !are_tasks(&core, &[*task]) {
-            return Err(Fail::new("no task"));
-        }
-        let Stepped::Went { did, .. } = step(&mut core, *task) else {
+        let Stepped::Went { did, .. } = step_of(&mut core, *task)? else {
             return Err(Fail::new("no step"));
         };
         assert!(rt; did == *kind);
     }
-    if are_tasks(&core, &[1]) {
-        assert!(rt; step(&mut core, 1) == Stepped::PhaseEnd);
-    }
-    finish(&mut core);
-    if are_tasks(&core, &[1]) {
-        assert!(rt; step(&mut core, 1) == Stepped::Ended);
-    }
+    assert!(rt; step_of(&mut core, 1)? == Stepped::PhaseEnd);
+    assert!(rt; core.next_phase());
+    assert!(rt; step_of(&mut core, 1)? == Stepped::Ended);
     Ok(())
 }

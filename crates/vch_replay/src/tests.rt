@@ -311,11 +311,11 @@ fn an_array_of_one_byte_too_many(rt: HostRuntime) -> Result<(), Fail> {
     Ok(())
 }
 
-/// A scenario of one create, of one record of user data with so many bytes of zero and so many more bytes behind it.
-fn wide_create(alloc: Global, header: &str, zeros: usize) -> Result<Vec<u8>, Fail> {
+/// A scenario of one create, of a header and so many digits 0.
+fn wide_create(alloc: Global, header: &str, digits: usize) -> Result<Vec<u8>, Fail> {
     let mut text = Vec::from_slice(alloc, b"vouch 1\ntasks 1\ntask 1\nphase\n1 create ")?;
     text.extend_from_slice(header.as_bytes())?;
-    for _digit in 0..2 * zeros {
+    for _digit in 0..digits {
         text.push(b'0')?;
     }
     text.extend_from_slice(b"\nend\n")?;
@@ -327,7 +327,7 @@ fn the_largest_array(rt: HostRuntime) -> Result<(), Fail> {
     let alloc = rt.alloc();
     let words = words_of(alloc, &["play"])?;
     let header = "07000000d300000000000000f0130000";
-    let mut source = SteadySource::new(wide_create(alloc, header, 5104)?);
+    let mut source = SteadySource::new(wide_create(alloc, header, 10208)?);
     let mut sink = SteadySink::new(alloc, 20000)?;
     assert_eq!(rt;
         run_steady(alloc, words.as_slice(), &mut source, &mut sink),
@@ -341,7 +341,7 @@ fn the_largest_array(rt: HostRuntime) -> Result<(), Fail> {
         b"\ncall 1 1 create 0 1\nphase\ntask 1 ledger 0 held 0 out 0\nvouchers 1 values 2\nend\n",
     )?;
     assert!(rt; sink.written() == report.as_slice());
-    let mut source = SteadySource::new(wide_create(alloc, header, 5105)?);
+    let mut source = SteadySource::new(wide_create(alloc, header, 10210)?);
     let mut sink = SteadySink::new(alloc, 1000)?;
     assert_eq!(rt;
         run_steady(alloc, words.as_slice(), &mut source, &mut sink),
