@@ -1,6 +1,6 @@
 -- The lines and the phases, one after the other.
-use Rattle.std.proofs.Common.{◌≡◌, ℕ, zero, suc, ◌+◌, ◌-◌, ◌<◌, ◌≤◌, ◌==◌, nat_lt, ◌&&◌, not, Bool, true, false, List, [], ◌∷◌, ◌++◌, refl, arith, sym, ap, ◌∙◌, subst, length, map, take, drop, get_or, reverse, cond, Option, Some, None}
-use Rattle.std.specs.Prelude.{slice_get, is_some}
+use Rattle.std.proofs.Common.{◌≡◌, ℕ, zero, suc, ◌+◌, ◌-◌, ◌<◌, ◌≤◌, ◌==◌, nat_lt, not, Bool, true, false, List, [], ◌∷◌, ◌++◌, refl, arith, sym, ap, ◌∙◌, subst, length, map, take, drop, get_or, Option, Some, None}
+use Rattle.std.specs.Prelude.{slice_get}
 use Rattle.std.proofs.Math.ListN.{set}
 use Rattle.std.proofs.lemmas.Grind.{common_steps}
 use Rattle.std.proofs.lemmas.List.{take_all, get_or-set_other, map-append, reverse-reverse}
@@ -9,16 +9,15 @@ use Rattle.vch_base.specs.declared.flags.Flags.{Flags}
 use Rattle.vch_model.specs.Legal.{Whole}
 use Rattle.vch_model.specs.Lines.{is_task, phases_in, lines_until}
 use Rattle.vch_model.specs.Scenarios.{IsIn, IsLimited}
-use Rattle.vch_model.specs.UserOnly.{IsUserCall, IsUserOnly}
 use Rattle.vch_model.specs.declared.call.Line.{Line}
 use Rattle.vch_model.specs.declared.entry.Entry.TheVariants as entries
 use Rattle.vch_model.specs.declared.lists.Scenario.{Scenario}
 use Rattle.vch_machine.specs.Events.{ready, numbers, phase_event}
 use Rattle.vch_machine.specs.Frames.{noted}
-use Rattle.vch_machine.specs.Next.{nth_call, next_kind, task_next}
+use Rattle.vch_machine.specs.Next.{nth_call, task_next}
 use Rattle.vch_machine.specs.PlainRuns.{never, IsPlainRun}
 use Rattle.vch_machine.specs.Schedules.{run, run_from_start, in_turn, turn_task, has_ended, first_waiting}
-use Rattle.vch_machine.specs.State.{Frame, Tally, Tasked, Machine, no_tally, idle, start, tasked, is_empty}
+use Rattle.vch_machine.specs.State.{Frame, Tally, Tasked, Machine, no_tally, idle, start, tasked}
 use Rattle.vch_legal.specs.Facts.{bit, times}
 use Rattle.vch_legal.proofs.AtRest.{task_of}
 use Rattle.vch_legal.proofs.PhaseCounts.{lines_with_phase}
@@ -26,7 +25,7 @@ use Rattle.vch_legal.proofs.PhaseLines.{no_lines}
 use Rattle.vch_legal.proofs.Runs.{run_whole}
 use Rattle.vch_legal.proofs.Turns.{own_number, all_tasks}
 use Rattle.vch_plain.specs.Calls.{Leads, phases_of, begins_of}
-use Rattle.vch_plain.specs.Serving.{IsNextCall, Arrives, Serves, IsAt, Comes, Came}
+use Rattle.vch_plain.specs.Serving.{IsNextCall, Serves, IsAt, Came}
 use Rattle.vch_plain.specs.States as states
 use Rattle.vch_plain.specs.States.{state_of}
 use Rattle.vch_plain.specs.declared.state.Plain.{Plain}

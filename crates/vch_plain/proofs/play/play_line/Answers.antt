@@ -1,4 +1,4 @@
-use Rattle.std.proofs.Common.{◌≡◌, sym, ap, ◌∙◌}
+use Rattle.std.proofs.Common.{ap, ◌∙◌}
 use Rattle.std.specs.Prelude.{slice_get}
 use Rattle.vch_plain.proofs.Outcomes.{on_ok}
 use Rattle.vch_plain.proofs.Playing.{line_done, phase_at}

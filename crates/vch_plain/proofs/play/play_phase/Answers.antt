@@ -1,4 +1,4 @@
-use Rattle.std.proofs.Common.{◌≡◌, ◌<◌, arith, sym, ap, ◌∙◌, subst, length}
+use Rattle.std.proofs.Common.{arith, ap, subst, length}
 use Rattle.vch_plain.specs.Serving.{Came}
 use Rattle.vch_plain.proofs.Outcomes.{on_all}
 use Rattle.vch_plain.proofs.Playing.{came_self, came_then, phase_done, phase_at}

@@ -1,4 +1,4 @@
-use Rattle.std.proofs.Common.{◌≡◌, ◌≤◌, arith, length}
+use Rattle.std.proofs.Common.{arith}
 use Rattle.vch_plain.proofs.Playing.{at_start, came_self, came_then, ended, plain_run, plain_whole}
 use Rattle.vch_plain.proofs.play.play_plain.Goals as goal
 

@@ -1,4 +1,4 @@
-use Rattle.std.proofs.Common.{◌≡◌, ◌<◌, arith, length, map, List, ap, ◌∙◌}
+use Rattle.std.proofs.Common.{arith, map, List, ap, ◌∙◌}
 use Rattle.vch_machine.specs.State.{idle}
 use Rattle.vch_plain.specs.States.{names_of, task_of}
 use Rattle.vch_plain.specs.declared.state.Named.{Named}
