@@ -1,38 +1,23 @@
 -- A call begins, and what it does at once.
-use Rattle.std.proofs.Common.{◌≡◌, ℕ, zero, suc, ◌+◌, ◌-◌, ◌<◌, ◌≤◌, ◌==◌, nat_lt, Bool, true, false, not, ◌||◌, List, [], ◌∷◌, refl, arith, sym, ap, ◌∙◌, subst, length, map, get_or, cond, Option, Some, None, pos, negsuc}
-use Rattle.std.specs.Prelude.{is_some, if◌then◌else◌}
+use Rattle.std.proofs.Common.{◌≡◌, ℕ, zero, suc, ◌+◌, ◌-◌, ◌<◌, nat_lt, true, false, not, List, [], ◌∷◌, refl, arith, sym, ap, ◌∙◌, subst, length, map, get_or, Option, Some, None}
 use Rattle.std.proofs.Math.ListN.{set}
-use Rattle.std.proofs.lemmas.Grind.{common_steps}
-use Rattle.vch_base.specs.declared.key.Key.TheVariants as keys
 use Rattle.vch_base.specs.declared.kind.Kind.TheVariants as kinds
-use Rattle.vch_model.specs.Eval.{create}
-use Rattle.vch_model.specs.Lines.{phases_in, is_task, lines_until}
-use Rattle.vch_model.specs.Replies.{refused, created, given_up}
-use Rattle.vch_model.specs.Store as store
-use Rattle.vch_model.specs.Totals.{named_voucher}
-use Rattle.vch_model.specs.Words.{word_of}
+use Rattle.vch_model.specs.Lines.{phases_in, lines_until}
 use Rattle.vch_model.specs.declared.call.Call.{Call}
-use Rattle.vch_model.specs.declared.call.Call.TheVariants as calls
-use Rattle.vch_model.specs.declared.entry.Entry.TheVariants as entries
-use Rattle.vch_model.specs.declared.entry.Reply.{Reply}
-use Rattle.vch_model.specs.declared.entry.Reply.TheVariants as replies
 use Rattle.vch_model.specs.declared.lists.Scenario.{Scenario}
-use Rattle.vch_machine.specs.Beginning.{begun_one, begin_call, begin_line, do_begin, store_reply, dropped, leaving_frame, fresh_frame}
+use Rattle.vch_machine.specs.Beginning.{begun_one, begin_call, store_reply}
 use Rattle.vch_machine.specs.Events.{event, event_of, numbers}
-use Rattle.vch_machine.specs.Frames.{closed, with_frame, noted, replied}
-use Rattle.vch_machine.specs.Naming.{handles_of, orphaned, is_known, places, item}
+use Rattle.vch_machine.specs.Frames.{with_frame}
 use Rattle.vch_machine.specs.Next.{nth_call, task_next}
-use Rattle.vch_machine.specs.Schedules.{first_waiting, lowest_open, turn_task}
-use Rattle.vch_machine.specs.State.{Handles, Living, Named, Frame, Tally, Tasked, Machine, no_tally, idle, tasked, with_tasked, named_of}
-use Rattle.vch_plain.specs.Calls.{Leads, Under, Left, Goes, left_with, left_in, frame_with, phases_of, begins_of}
-use Rattle.vch_plain.specs.Creates.{names_at, lost_name, is_named, left_of, reply_found, IsLost}
-use Rattle.vch_plain.specs.Serving.{IsNextCall, Arrives, Serves}
-use Rattle.vch_plain.specs.States.{state_of, task_of, user_voucher, option_voucher}
+use Rattle.vch_machine.specs.Schedules.{lowest_open, turn_task}
+use Rattle.vch_machine.specs.State.{Frame, Tally, Tasked, Machine, no_tally, idle, tasked, with_tasked}
+use Rattle.vch_plain.specs.Calls.{Leads, Under, phases_of, begins_of}
+use Rattle.vch_plain.specs.Serving.{IsNextCall}
+use Rattle.vch_plain.specs.States.{state_of, task_of}
 use Rattle.vch_plain.specs.declared.state.Plain.{Plain}
 use Rattle.vch_plain.specs.declared.state.Task.{Task}
-use Rattle.vch_plain.proofs.Leading.{leads_then, leads_move, no_frame, task_bounds}
-use Rattle.vch_plain.proofs.Going.{begins_by, begun_same}
-use Rattle.vch_plain.proofs.Naming.{Quiet, begins_stay, replied_with}
+use Rattle.vch_plain.proofs.Leading.{leads_move, no_frame, task_bounds}
+use Rattle.vch_plain.proofs.Going.{begun_same}
 
 -- between calls no task has a frame
 pub none_open : (p : Plain) (c : Tally) (ts : List ℕ) → lowest_open (state_of p c) ts ≡ None

@@ -1,13 +1,11 @@
 -- The next record of a create: carried out without a manager, refused, or asked of the manager of user data.
-use Rattle.std.proofs.Common.{◌≡◌, ℕ, zero, suc, ◌+◌, ◌-◌, ◌<◌, ◌==◌, Bool, true, false, List, [], ◌∷◌, ◌++◌, ◌&&◌, not, refl, sym, ap, ◌∙◌, subst, length, map, drop, get_or, cond, Option, Some, None, Result, Ok, Err, ℤ, pos}
-use Rattle.std.proofs.Math.ListN.{set}
-use Rattle.vch_base.specs.declared.fault.Code.{Code}
+use Rattle.std.proofs.Common.{◌≡◌, ℕ, zero, suc, ◌+◌, ◌-◌, ◌<◌, ◌==◌, true, false, List, [], ◌∷◌, refl, sym, ap, ◌∙◌, length, map, drop, Option, Some, None, Result, Ok, Err, ℤ}
 use Rattle.vch_base.specs.declared.key.Key.{Key}
 use Rattle.vch_base.specs.declared.key.Key.TheVariants as keys
 use Rattle.vch_base.specs.declared.kind.Kind.{Kind}
 use Rattle.vch_base.specs.declared.kind.Kind.TheVariants as kinds
 use Rattle.vch_base.specs.declared.value.Value.{Value}
-use Rattle.vch_recipe.specs.Recipes.{First, One, first_of}
+use Rattle.vch_recipe.specs.Recipes.{One, first_of}
 use Rattle.vch_recipe.specs.declared.recipe.Recipe.{Recipe}
 use Rattle.vch_model.specs.Eval.{answer_to}
 use Rattle.vch_model.specs.Legal.{asks}
@@ -16,19 +14,18 @@ use Rattle.vch_model.specs.Replies.{refused}
 use Rattle.vch_model.specs.declared.call.Call.{Call}
 use Rattle.vch_model.specs.declared.call.Call.TheVariants as calls
 use Rattle.vch_model.specs.declared.call.Word.TheVariants as words
-use Rattle.vch_model.specs.declared.entry.Entry.{Entry}
 use Rattle.vch_model.specs.declared.entry.Entry.TheVariants as entries
 use Rattle.vch_model.specs.declared.lists.Scenario.{Scenario}
 use Rattle.vch_machine.specs.Events.{on_formed, frame_event}
 use Rattle.vch_machine.specs.Frames.{closed, with_frame, noted, replied, refuse, tallied}
 use Rattle.vch_machine.specs.Making.{Asked, asked_by, asked_first, previous_of, moved, make_done, make_asked, made_at, given_receipt, minted, fresh_handle, race_claim, back_claim, on_claims, on_task, one_refer, do_refer}
-use Rattle.vch_machine.specs.Naming.{item, option_places}
+use Rattle.vch_machine.specs.Naming.{item}
 use Rattle.vch_machine.specs.Next.{known_name, first_next}
-use Rattle.vch_machine.specs.State.{Handles, Place, Claim, Frame, Tally, Tasked, Machine, Named, Pool, no_tally, of_key, tasked, value_at, handle_of, idle}
+use Rattle.vch_machine.specs.State.{Claim, Frame, Tally, Tasked, Machine, Named, no_tally, of_key, tasked, value_at, handle_of}
 use Rattle.vch_machine.specs.Working as working
 use Rattle.vch_machine.specs.Working.{work_first, work_done, size_of}
 use Rattle.vch_plain.specs.States.{state_of, task_of, live_of, pool_of, user_place, user_voucher}
-use Rattle.vch_plain.specs.Calls.{Leads, Under, Left, Reaches, Goes, frame_with, left_in, left_with, phases_of, begins_of}
+use Rattle.vch_plain.specs.Calls.{Leads, Under, Goes, frame_with, left_with, phases_of, begins_of}
 use Rattle.vch_plain.specs.Creates.{names_at, create_refused}
 use Rattle.vch_plain.specs.declared.state.Plain.{Plain}
 use Rattle.vch_plain.specs.declared.state.Task.{Task}

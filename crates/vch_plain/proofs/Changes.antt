@@ -1,9 +1,9 @@
 -- One task is changed.
-use Rattle.std.proofs.Common.{◌≡◌, ℕ, zero, suc, ◌-◌, ◌<◌, List, [], ◌∷◌, refl, arith, sym, ap, ◌∙◌, length, map, get_or}
+use Rattle.std.proofs.Common.{◌≡◌, ℕ, zero, suc, ◌-◌, ◌<◌, List, [], ◌∷◌, arith, sym, ap, ◌∙◌, length, map, get_or}
 use Rattle.std.proofs.Math.ListN.{set}
 use Rattle.std.proofs.lemmas.List.{map-set}
 use Rattle.std.specs.Vec.{with_item}
-use Rattle.vch_machine.specs.State.{Tally, Tasked, Machine, idle, tasked, with_tasked}
+use Rattle.vch_machine.specs.State.{Tally, Tasked, idle, tasked, with_tasked}
 use Rattle.vch_plain.specs.States.{state_of, task_of}
 use Rattle.vch_plain.specs.declared.state.Plain.{Plain}
 use Rattle.vch_plain.specs.declared.state.Task.{Task}

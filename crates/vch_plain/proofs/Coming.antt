@@ -1,11 +1,11 @@
 -- How far a create has come.
-use Rattle.std.proofs.Common.{◌≡◌, ℕ, suc, ◌+◌, ◌<◌, ◌≤◌, List, [], ◌∷◌, refl, arith, sym, ap, ◌∙◌, subst, length, map, drop, Option, Some, None}
+use Rattle.std.proofs.Common.{◌≡◌, ℕ, suc, ◌≤◌, List, [], ◌∷◌, refl, arith, sym, ap, ◌∙◌, length, map, drop, Option, Some, None}
 use Rattle.vch_recipe.specs.Recipes.{End, first_of}
 use Rattle.std.proofs.lemmas.List.{length-drop}
 use Rattle.vch_model.specs.UserOnly.{AsksUserOnly}
 use Rattle.vch_model.specs.declared.call.Call.{Call}
 use Rattle.vch_model.specs.declared.call.Call.TheVariants as calls
-use Rattle.vch_plain.specs.Calls.{Goes, Left, Reaches, left_with, begins_of}
+use Rattle.vch_plain.specs.Calls.{Goes, Left, left_with, begins_of}
 use Rattle.vch_plain.specs.Creates.{IsStep, IsFinished}
 use Rattle.vch_plain.specs.declared.create.Went.{Went}
 use Rattle.vch_plain.specs.declared.state.Plain.{Plain}

@@ -1,17 +1,15 @@
 -- How a call goes on, step by step.
-use Rattle.std.proofs.Common.{◌≡◌, ℕ, zero, suc, ◌+◌, ◌-◌, ◌<◌, ◌≤◌, Bool, true, false, not, nat_lt, List, [], ◌∷◌, ◌&&◌, ◌||◌, refl, arith, sym, ap, ◌∙◌, subst, length, map, get_or, Option, Some, None}
-use Rattle.std.proofs.lemmas.List.{get_or-map}
+use Rattle.std.proofs.Common.{◌≡◌, ℕ, zero, suc, ◌-◌, ◌<◌, false, not, List, [], ◌∷◌, refl, arith, sym, ap, ◌∙◌, subst, length, map, get_or, Option, Some}
 use Rattle.std.proofs.Math.ListN.{set}
 use Rattle.vch_base.specs.declared.kind.Kind.{Kind}
-use Rattle.vch_model.specs.Lines.{is_task, phases_in}
 use Rattle.vch_model.specs.declared.call.Call.{Call}
 use Rattle.vch_model.specs.declared.lists.Scenario.{Scenario}
 use Rattle.vch_machine.specs.State.{Frame, Tally, Tasked, Machine, idle, tasked}
-use Rattle.vch_machine.specs.Events.{event, frame_event}
+use Rattle.vch_machine.specs.Events.{frame_event}
 use Rattle.vch_machine.specs.Frames.{with_frame}
 use Rattle.vch_machine.specs.Next.{nth_call, frame_next}
 use Rattle.vch_plain.specs.States.{state_of, task_of}
-use Rattle.vch_plain.specs.Calls.{Leads, Under, Left, Reaches, Goes, left_in, phases_of, begins_of}
+use Rattle.vch_plain.specs.Calls.{Leads, Under, Left, Goes, left_in, phases_of, begins_of}
 use Rattle.vch_plain.specs.declared.state.Plain.{Plain}
 use Rattle.vch_plain.specs.declared.state.Task.{Task}
 use Rattle.vch_plain.proofs.Leading.{leads_self, leads_then, leads_move, own_task, its_turn, event_by, task_bounds}

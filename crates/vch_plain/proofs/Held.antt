@@ -1,15 +1,13 @@
 -- Who holds a handle, expects it or claims it while one call is under way.
-use Rattle.std.proofs.Common.{◌≡◌, ℕ, zero, suc, ◌-◌, ◌<◌, Bool, true, false, List, [], ◌∷◌, ◌++◌, ◌&&◌, ◌||◌, refl, arith, sym, ap, ◌∙◌, length, map, get_or, Option, Some, None, cond}
+use Rattle.std.proofs.Common.{◌≡◌, ℕ, zero, suc, ◌<◌, Bool, true, false, List, [], ◌∷◌, ◌||◌, refl, arith, ap, ◌∙◌, length, map, get_or, Option, Some, None, cond}
 use Rattle.std.specs.Prelude.{◌==◌}
 use Rattle.std.proofs.Math.ListN.{set}
 use Rattle.std.specs.List.{list_any, flat_map}
-use Rattle.vch_machine.specs.Frames.{with_frame}
-use Rattle.vch_machine.specs.Leaving.{is_fixed, is_fixed_value}
-use Rattle.vch_machine.specs.Naming.{is_known, task_knows}
-use Rattle.vch_machine.specs.State.{Handles, Named, has_place, Place, Claim, Frame, Tally, Tasked, idle, tasked, living_at, task_holds, frame_holds, frame_expects, frame_claims, is_held, is_expected, claims_on}
-use Rattle.vch_plain.specs.States.{state_of, task_of, live_of, living_of, user_place}
+use Rattle.vch_machine.specs.Leaving.{is_fixed_value}
+use Rattle.vch_machine.specs.Naming.{task_knows}
+use Rattle.vch_machine.specs.State.{Handles, Named, has_place, Place, Frame, Tasked, idle, living_at, task_holds, frame_holds, frame_expects, frame_claims}
+use Rattle.vch_plain.specs.States.{task_of, live_of, living_of, user_place}
 use Rattle.vch_plain.specs.declared.state.Living.{Living}
-use Rattle.vch_plain.specs.declared.state.Plain.{Plain}
 use Rattle.vch_plain.specs.declared.state.Task.{Task}
 
 abbrev pub with_own : List Task → ℕ → Option Frame → List Tasked

@@ -1,25 +1,22 @@
 -- Moves in turn, one after the other.
-use Rattle.std.proofs.Common.{◌≡◌, ◌⊎◌, inl, inr, ◌&&◌, ℕ, zero, suc, ◌+◌, ◌-◌, ◌<◌, ◌≤◌, Bool, true, false, not, nat_lt, ◌==◌, List, [], ◌∷◌, refl, arith, sym, ap, ◌∙◌, subst, length, reverse, get_or, map, Option, Some, None}
+use Rattle.std.proofs.Common.{◌≡◌, ◌⊎◌, inl, inr, ◌&&◌, ℕ, zero, suc, ◌+◌, ◌-◌, ◌<◌, ◌≤◌, Bool, true, false, nat_lt, List, [], ◌∷◌, refl, arith, sym, ap, ◌∙◌, subst, length, get_or, map, Option, Some, None}
 use Rattle.std.proofs.lemmas.Grind.{common_steps}
 use Rattle.std.proofs.lemmas.List.{get_or-set_other}
 use Rattle.std.proofs.Math.ListN.{set}
-use Rattle.std.specs.Prelude.{is_some, if◌then◌else◌}
-use Rattle.std.specs.List.{AllByRecursion}
+use Rattle.std.specs.Prelude.{is_some}
 use Rattle.vch_base.specs.declared.kind.Kind.{Kind}
 use Rattle.vch_model.specs.Lines.{is_task, phases_in}
-use Rattle.vch_model.specs.declared.call.Call.{Call}
 use Rattle.vch_model.specs.declared.lists.Scenario.{Scenario}
 use Rattle.vch_machine.specs.State.{Frame, Tally, Tasked, Machine, idle, tasked}
 use Rattle.vch_machine.specs.Events.{event, event_of, frame_event, numbers}
 use Rattle.vch_machine.specs.Frames.{with_frame}
-use Rattle.vch_machine.specs.Next.{nth_call, frame_next, task_next, next_kind}
+use Rattle.vch_machine.specs.Next.{nth_call, frame_next, task_next}
 use Rattle.vch_machine.specs.PlainRuns.{never}
-use Rattle.vch_machine.specs.Schedules.{Move, happens, run, in_turn, lowest_open, turn_task, move_of, has_ended}
-use Rattle.vch_legal.proofs.AtRest.{task_of}
-use Rattle.vch_legal.proofs.Turns.{all_tasks, Opened, lowest_some, lowest_none, number_of_all}
+use Rattle.vch_machine.specs.Schedules.{happens, run, in_turn, lowest_open, turn_task, move_of, has_ended}
+use Rattle.vch_legal.proofs.Turns.{all_tasks, lowest_some, lowest_none, number_of_all}
 use Rattle.vch_plain.specs.States as states
 use Rattle.vch_plain.specs.States.{state_of}
-use Rattle.vch_plain.specs.Calls.{Leads, Under, phases_of, begins_of}
+use Rattle.vch_plain.specs.Calls.{Leads}
 use Rattle.vch_plain.specs.declared.state.Plain.{Plain}
 use Rattle.vch_plain.specs.declared.state.Task.{Task}
 

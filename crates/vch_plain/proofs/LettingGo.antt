@@ -1,18 +1,16 @@
 -- A call lets a handle go, and its value is given back where nothing holds it any more.
-use Rattle.std.proofs.Common.{◌≡◌, ℕ, ◌+◌, ◌-◌, ◌<◌, Bool, true, false, List, [], ◌∷◌, ◌&&◌, ◌||◌, not, refl, arith, sym, ap, ◌∙◌, subst, length, map, get_or, Option, Some, None}
-use Rattle.std.specs.Prelude.{is_some}
+use Rattle.std.proofs.Common.{◌≡◌, ℕ, ◌-◌, ◌<◌, Bool, true, false, List, [], ◌∷◌, ◌||◌, refl, sym, ap, ◌∙◌, subst, length, map, Option, Some, None}
 use Rattle.std.specs.List.{list_any}
 use Rattle.vch_base.specs.declared.kind.Kind.TheVariants as kinds
 use Rattle.vch_model.specs.Lines.{phases_in}
 use Rattle.vch_model.specs.declared.call.Call.{Call}
 use Rattle.vch_model.specs.declared.lists.Scenario.{Scenario}
 use Rattle.vch_machine.specs.Frames.{closed, with_frame, tallied}
-use Rattle.vch_machine.specs.Leaving.{claim_if, new_claim, more_claims, one_ask, do_let_go, do_ask, do_recheck, released, with_answer}
-use Rattle.vch_machine.specs.State.{Handles, Place, Claim, Frame, Tally, Tasked, Machine, no_tally, option_has, task_holds, is_held, is_expected, claims_on, is_empty}
+use Rattle.vch_machine.specs.Leaving.{claim_if, more_claims, one_ask, do_let_go, released}
+use Rattle.vch_machine.specs.State.{Handles, Place, Claim, Frame, Tally, Machine, no_tally, option_has, task_holds, is_held, is_expected, claims_on}
 use Rattle.vch_plain.specs.States.{state_of, task_of, user_place, option_voucher}
-use Rattle.vch_plain.specs.Calls.{Leads, Under, Left, Reaches, Goes, frame_with, left_in, left_with, phases_of, begins_of}
+use Rattle.vch_plain.specs.Calls.{Leads, Under, Goes, frame_with, left_with, phases_of, begins_of}
 use Rattle.vch_plain.specs.declared.state.Plain.{Plain}
-use Rattle.vch_plain.specs.declared.state.Task.{Task}
 use Rattle.vch_plain.proofs.Leading.{leads_then}
 use Rattle.vch_plain.proofs.Going.{under_same, begins_by, inside, set_twice, call_event}
 use Rattle.vch_plain.proofs.Held.{held_own, expects_own, claims_own, not_fixed}

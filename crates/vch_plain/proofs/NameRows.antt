@@ -1,9 +1,8 @@
 -- A name at a place of a list.
-use Rattle.std.proofs.Common.{take, drop, set, get_or, ◌≡◌, ◌+◌, ◌-◌, ◌≤◌, ◌<◌, ℕ, suc, List, [], ◌∷◌, ◌++◌, length, map, refl, sym, ap, ◌∙◌, arith, Bool, true, false, ◌==◌, nat_lt}
+use Rattle.std.proofs.Common.{take, drop, set, get_or, ◌≡◌, ◌+◌, ◌-◌, ◌≤◌, ◌<◌, ℕ, suc, List, ◌∷◌, ◌++◌, length, refl, sym, ap, ◌∙◌, arith, true, false, ◌==◌, nat_lt}
 use Rattle.std.proofs.lemmas.Grind.{common_steps}
 use Rattle.std.proofs.lemmas.List.{map-append}
 use Rattle.std.proofs.Math.Seq.{drop-cons, set_split}
-use Rattle.vch_machine.specs.State as machine
 use Rattle.vch_machine.specs.Naming as naming
 use Rattle.vch_plain.specs.declared.state.Named.{Named}
 use Rattle.vch_plain.specs.States.{named_of, names_of}

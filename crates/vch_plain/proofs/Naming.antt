@@ -1,14 +1,12 @@
 -- A create gets its name, and a name loses a reference.
-use Rattle.std.proofs.Common.{◌≡◌, ℕ, zero, suc, ◌-◌, ◌<◌, Bool, true, false, List, [], ◌∷◌, ◌++◌, refl, sym, ap, ◌∙◌, subst, length, map, drop, get_or, cond, Option, Some, None, pos}
+use Rattle.std.proofs.Common.{◌≡◌, ℕ, zero, suc, ◌-◌, ◌<◌, Bool, true, false, List, [], ◌∷◌, refl, sym, ap, ◌∙◌, subst, length, map, drop, get_or, cond, Option, Some, None}
 use Rattle.std.proofs.Math.ListN.{set}
-use Rattle.std.specs.List.{list_any}
 use Rattle.vch_base.specs.declared.key.Key.TheVariants as keys
 use Rattle.vch_base.specs.declared.kind.Kind.TheVariants as kinds
 use Rattle.vch_recipe.specs.Recipes.{End, first_of}
 use Rattle.vch_model.specs.Lines.{phases_in}
 use Rattle.vch_model.specs.declared.call.Call.{Call}
 use Rattle.vch_model.specs.declared.call.Call.TheVariants as calls
-use Rattle.vch_model.specs.declared.call.Word.TheVariants as words
 use Rattle.vch_model.specs.declared.entry.Entry.TheVariants as entries
 use Rattle.vch_model.specs.declared.entry.Reply.{Reply}
 use Rattle.vch_model.specs.declared.entry.Reply.TheVariants as replies
@@ -16,11 +14,11 @@ use Rattle.vch_model.specs.declared.lists.Scenario.{Scenario}
 use Rattle.vch_model.specs.Words.{word_of}
 use Rattle.vch_machine.specs.Events.{on_formed, frame_event}
 use Rattle.vch_machine.specs.Frames.{closed, with_frame, noted, replied}
-use Rattle.vch_machine.specs.Naming.{name_for, name_of, with_name, places, task_knows, is_known, doubled, item}
-use Rattle.vch_machine.specs.Placing.{place_create, do_place, ended}
-use Rattle.vch_machine.specs.State.{Handles, Place, Frame, Tally, Tasked, Machine, Named, no_tally, idle, tasked, with_tasked}
-use Rattle.vch_plain.specs.Calls.{Under, Goes, frame_with, left_with, left_in, phases_of, begins_of}
-use Rattle.vch_plain.specs.Creates.{names_at, given_name, is_named, left_if, IsFinished}
+use Rattle.vch_machine.specs.Naming.{name_for, name_of, with_name, places, doubled, item}
+use Rattle.vch_machine.specs.Placing.{do_place, ended}
+use Rattle.vch_machine.specs.State.{Frame, Tally, Tasked, Machine, no_tally, idle, tasked, with_tasked}
+use Rattle.vch_plain.specs.Calls.{Under, Goes, frame_with, left_with, phases_of, begins_of}
+use Rattle.vch_plain.specs.Creates.{given_name, is_named, left_if, IsFinished}
 use Rattle.vch_plain.specs.States.{state_of, task_of, user_voucher}
 use Rattle.vch_plain.specs.declared.state.Plain.{Plain}
 use Rattle.vch_plain.specs.declared.state.Task.{Task}

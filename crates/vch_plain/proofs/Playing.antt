@@ -1,33 +1,35 @@
 -- The lines and the phases, one after the other.
-use Rattle.std.proofs.Common.{◌≡◌, ℕ, zero, suc, ◌+◌, ◌-◌, ◌<◌, ◌≤◌, ◌==◌, nat_lt, ◌&&◌, not, Bool, true, false, List, [], ◌∷◌, ◌++◌, refl, arith, sym, ap, ◌∙◌, subst, length, map, take, drop, get_or, reverse, cond, Option, Some, None}
-use Rattle.std.specs.Prelude.{slice_get, is_some}
+use Rattle.std.proofs.Common.{◌≡◌, ℕ, zero, suc, ◌+◌, ◌-◌, ◌<◌, ◌≤◌, ◌==◌, nat_lt, not, Bool, true, false, List, [], ◌∷◌, ◌++◌, refl, arith, sym, ap, ◌∙◌, subst, length, map, take, drop, get_or, Option, Some, None}
+use Rattle.std.specs.Prelude.{slice_get}
 use Rattle.std.proofs.Math.ListN.{set}
 use Rattle.std.proofs.lemmas.Grind.{common_steps}
-use Rattle.std.proofs.lemmas.List.{take_all, get_or-set_other}
+use Rattle.std.proofs.lemmas.List.{take_all, get_or-set_other, map-append, reverse-reverse}
 use Rattle.std.specs.List.{AllByRecursion}
+use Rattle.vch_base.specs.declared.flags.Flags.{Flags}
 use Rattle.vch_model.specs.Legal.{Whole}
 use Rattle.vch_model.specs.Lines.{is_task, phases_in, lines_until}
 use Rattle.vch_model.specs.Scenarios.{IsIn, IsLimited}
-use Rattle.vch_model.specs.UserOnly.{IsUserCall, IsUserOnly}
 use Rattle.vch_model.specs.declared.call.Line.{Line}
 use Rattle.vch_model.specs.declared.entry.Entry.TheVariants as entries
 use Rattle.vch_model.specs.declared.lists.Scenario.{Scenario}
 use Rattle.vch_machine.specs.Events.{ready, numbers, phase_event}
 use Rattle.vch_machine.specs.Frames.{noted}
-use Rattle.vch_machine.specs.Next.{nth_call, next_kind, task_next}
+use Rattle.vch_machine.specs.Next.{nth_call, task_next}
 use Rattle.vch_machine.specs.PlainRuns.{never, IsPlainRun}
 use Rattle.vch_machine.specs.Schedules.{run, run_from_start, in_turn, turn_task, has_ended, first_waiting}
-use Rattle.vch_machine.specs.State.{Tally, Tasked, Machine, no_tally, start, tasked, is_empty}
+use Rattle.vch_machine.specs.State.{Frame, Tally, Tasked, Machine, no_tally, idle, start, tasked}
 use Rattle.vch_legal.specs.Facts.{bit, times}
 use Rattle.vch_legal.proofs.AtRest.{task_of}
 use Rattle.vch_legal.proofs.PhaseCounts.{lines_with_phase}
 use Rattle.vch_legal.proofs.PhaseLines.{no_lines}
+use Rattle.vch_legal.proofs.Runs.{run_whole}
 use Rattle.vch_legal.proofs.Turns.{own_number, all_tasks}
 use Rattle.vch_plain.specs.Calls.{Leads, phases_of, begins_of}
-use Rattle.vch_plain.specs.Serving.{IsNextCall, Arrives, Serves, IsAt, Comes, Came}
+use Rattle.vch_plain.specs.Serving.{IsNextCall, Serves, IsAt, Came}
 use Rattle.vch_plain.specs.States as states
 use Rattle.vch_plain.specs.States.{state_of}
 use Rattle.vch_plain.specs.declared.state.Plain.{Plain}
+use Rattle.vch_plain.specs.declared.state.Task.{Task}
 use Rattle.vch_plain.proofs.Leading.{leads_self, leads_then, leads_move, no_frame, task_bounds}
 use Rattle.vch_plain.proofs.Going.{begins_by, begun_same}
 use Rattle.vch_plain.proofs.Beginning.{none_open, get_set, set_long}
@@ -144,3 +146,140 @@ came_then sc a b d e p q r x y = record {
   at = y.at;
   comes = λ c. let i = x.comes c in let j = y.comes i.counted in record { counted = j.counted; leads = leads_then sc (state_of p c) (state_of q i.counted) (state_of r j.counted) i.leads j.leads };
 }
+
+-- The end of a phase.
+
+rests : (sc : Scenario) (p : Plain) (c : Tally) → ((t : ℕ) → is_task sc t ≡ true → nat_lt (tasked (state_of p c) t).begun (lines_until sc (phases_of p + 1) t) ≡ false)
+    → (ts : List ℕ) → AllByRecursion (λ t. is_task sc t ≡ true) ts → ready sc (state_of p c) ts ≡ []
+rests sc p c done [] all = refl
+rests sc p c done (t ∷ ts) all = rw (none (tasked (state_of p c) t).frame (no_frame p.tasks.items (t - 1))) (rests sc p c done ts all.1)
+  where
+    none : (o : Option Frame) → o ≡ None → task_next sc (phases_of p) t (tasked (state_of p c) t) o ≡ None
+    none None e = rw (done t all.0) refl
+    none (Some f) e = cc
+
+phase_by : (sc : Scenario) (m : Machine) → ready sc m (numbers (length sc.flags)) ≡ [] → nat_lt (phases_in m.past) (length sc.phases) ≡ true → phase_event sc m ≡ Some (noted m entries.Phase)
+unfolding phase_event
+phase_by sc m e l = rw (e, l) refl
+
+pub phase_done : (sc : Scenario) (phase : ℕ) (p q : Plain) → IsLimited sc → phase < length sc.phases → IsAt sc phase (length (get_or sc.phases phase [])) p
+    → ((c : Tally) → state_of q c ≡ noted (state_of p c) entries.Phase) → Came sc (phase + 1) 0 p q
+phase_done sc phase p q limited more at e = record {
+  at = record {
+    phases = ap (λ (m : Machine). phases_in m.past) (e no_tally) ∙ ap (λ n. n + 1) at.phases;
+    long = ap length same ∙ at.long;
+    begun = λ t task.
+        ap (λ ns. get_or ns (t - 1) 0) same ∙ (at_end t task ∙ plain (lines_until sc (phase + 1) t) (of t (take 0 (get_or sc.phases (phase + 1) []))) (nothing t (get_or sc.phases (phase + 1) [])));
+  };
+  comes = λ c. record {
+    counted = c;
+    leads = leads_move sc (state_of p c) (state_of q c) None (ap not left)
+        (ap (turn_task sc (state_of p c)) (none_open p c (numbers (length sc.flags))) ∙ (ap (λ n. first_waiting sc (state_of p c) [] (get_or sc.phases n [])) at.phases ∙ no_line c))
+        (phase_by sc (state_of p c) (rests sc p c (resting c) (numbers (length sc.flags)) (all_tasks sc)) left ∙ ap Some (sym (e c)));
+  };
+}
+  where
+    same : begins_of q ≡ begins_of p
+    same = begins_by p q no_tally no_tally (ap (λ (m : Machine). m.tasks) (e no_tally))
+
+    left : nat_lt (phases_of p) (length sc.phases) ≡ true
+    left = ap (λ n. nat_lt n (length sc.phases)) at.phases ∙ below phase (length sc.phases) more
+
+    plain : (a b : ℕ) → b ≡ 0 → a ≡ a + b
+    plain a b h = omega (arith, h)
+
+    nothing : (t : ℕ) (lines : List Line) → of t (take 0 lines) ≡ 0
+    nothing t [] = refl
+    nothing t (x ∷ lines) = refl
+
+    at_end : (t : ℕ) → is_task sc t ≡ true → get_or (begins_of p) (t - 1) 0 ≡ lines_until sc (phase + 1) t
+    at_end t task =
+        let a = at.begun t task in
+        let b : of t (take (length (get_or sc.phases phase [])) (get_or sc.phases phase [])) ≡ of t (get_or sc.phases phase []) = ap (of t) (take_all (length (get_or sc.phases phase [])) (get_or sc.phases phase []) (omega arith)) in
+        let d = lines_with_phase sc t phase in
+        omega (arith, a, b, d)
+
+    resting : (c : Tally) (t : ℕ) → is_task sc t ≡ true → nat_lt (tasked (state_of p c) t).begun (lines_until sc (phases_of p + 1) t) ≡ false
+    resting c t task =
+        let a = begun_same p c t in
+        let b = at_end t task in
+        ap (λ n. nat_lt (tasked (state_of p c) t).begun (lines_until sc (n + 1) t)) at.phases ∙ not_below _ _ (omega (arith, a, b))
+
+    no_line : (c : Tally) → first_waiting sc (state_of p c) [] (get_or sc.phases phase []) ≡ None
+    no_line c =
+        let whole : take (length (get_or sc.phases phase [])) (get_or sc.phases phase []) ≡ get_or sc.phases phase [] = take_all (length (get_or sc.phases phase [])) (get_or sc.phases phase []) (omega arith) in
+        waits_none sc (state_of p c) [] (get_or sc.phases phase []) (of_phase (IsIn (length sc.flags)) sc.phases phase limited.lines)
+        (subst (λ ls. Passed sc (state_of p c) [] ls) whole (passed_at sc phase (length (get_or sc.phases phase [])) p c at))
+
+-- The start, and the end of all.
+
+pub at_start : (sc : Scenario) (p : Plain) → ((c : Tally) → state_of p c ≡ record (start sc) { tally = c }) → IsAt sc 0 0 p
+at_start sc p e = record {
+  phases = ap (λ (m : Machine). phases_in m.past) (e no_tally);
+  long = sym (ap length (seen p.tasks.items)) ∙ (ap (λ (m : Machine). length (map (λ (x : Tasked). x.begun) m.tasks)) (e no_tally) ∙ idle_long sc.flags);
+  begun = λ t task.
+      ap (λ ns. get_or ns (t - 1) 0) (sym (seen p.tasks.items) ∙ ap (λ (m : Machine). map (λ (x : Tasked). x.begun) m.tasks) (e no_tally))
+      ∙ (idle_begun sc.flags (t - 1) ∙ (let a = no_lines sc t in let b = nothing t (get_or sc.phases 0 []) in omega (arith, a, b)));
+}
+  where
+    seen : (xs : List Task) → map (λ (x : Tasked). x.begun) (map states.task_of xs) ≡ map (λ (x : Task). x.begun) xs
+    seen [] = refl
+    seen (x ∷ xs) = ap (λ ns. x.begun ∷ ns) (seen xs)
+
+    idle_long : (flags : List Flags) → length (map (λ (x : Tasked). x.begun) (map (λ _. idle) flags)) ≡ length flags
+    idle_long [] = refl
+    idle_long (f ∷ flags) = ap suc (idle_long flags)
+
+    idle_begun : (flags : List Flags) (i : ℕ) → get_or (map (λ (x : Tasked). x.begun) (map (λ _. idle) flags)) i 0 ≡ 0
+    idle_begun [] i = refl
+    idle_begun (f ∷ flags) zero = refl
+    idle_begun (f ∷ flags) (suc i) = idle_begun flags i
+
+    nothing : (t : ℕ) (lines : List Line) → of t (take 0 lines) ≡ 0
+    nothing t [] = refl
+    nothing t (x ∷ lines) = refl
+
+-- a run to the end
+pub record Ended (sc : Scenario) (p : Plain) : Type 0 where
+  pub counted : Tally
+  pub bound : ℕ
+  pub run : run_from_start sc (in_turn bound never sc (Some (start sc))) ≡ Some (state_of p counted)
+  pub over : has_ended sc (state_of p counted) ≡ true
+
+stops : (sc : Scenario) (m n : Machine) (l : Leads sc m n) → run sc (in_turn (l.steps + 0) never sc (Some m)) (Some m) ≡ Some n
+unfolding in_turn
+stops sc m n l = l.run 0
+
+pub ended : (sc : Scenario) (p q : Plain) (phase : ℕ) → ((c : Tally) → state_of p c ≡ record (start sc) { tally = c }) → length sc.phases ≤ phase → Came sc phase 0 p q → Ended sc q
+ended sc p q phase e over came =
+    let x = came.comes no_tally in
+    record {
+      counted = x.counted;
+      bound = x.leads.steps + 0;
+      run = subst (λ m. run sc (in_turn (x.leads.steps + 0) never sc (Some m)) (Some m) ≡ Some (state_of q x.counted)) (e no_tally) (stops sc (state_of p no_tally) (state_of q x.counted) x.leads);
+      over = ap not (ap (λ n. nat_lt n (length sc.phases)) came.at.phases ∙ not_below phase (length sc.phases) over);
+    }
+
+pub plain_run : (sc : Scenario) (p : Plain) → Ended sc p → IsPlainRun sc p.history.entries
+plain_run sc p e = record { bound = e.bound; m = state_of p e.counted; run = e.run; ended = e.over; history_is = sym (reverse-reverse p.history.entries) }
+
+pub plain_whole : (sc : Scenario) (p : Plain) → Ended sc p → Whole p.history.entries sc
+plain_whole sc p e = subst (λ h. Whole h sc) (reverse-reverse p.history.entries) (run_whole sc (in_turn e.bound never sc (Some (start sc))) (state_of p e.counted) e.run e.over)
+
+pub phase_at : (phases : List (List Line)) (p : ℕ) (lines : List Line) → slice_get phases p ≡ Some lines → get_or phases p [] ≡ lines
+phase_at [] p lines e = cc
+phase_at (x ∷ phases) zero lines e = let z : x ≡ lines = cc in z
+phase_at (x ∷ phases) (suc p) lines e = phase_at phases p lines e
+
+-- one task more at the start
+pub idle_more : (flags : List Flags) (n : ℕ) → n < length flags → map (λ _. idle) (take (n + 1) flags) ≡ map (λ _. idle) (take n flags) ++ idle ∷ []
+idle_more [] n l = absurd (omega (arith, l))
+idle_more (f ∷ flags) zero l = refl
+idle_more (f ∷ flags) (suc n) l = ap (λ k. map (λ _. idle) (take k (f ∷ flags))) (next n) ∙ ap (λ (xs : List Tasked). idle ∷ xs) (idle_more flags n (omega (arith, l)))
+  where
+    next : (n : ℕ) → suc n + 1 ≡ suc (n + 1)
+    next n = omega arith
+
+pub idle_task : (tasks : List Task) (x : Task) (flags : List Flags) (n : ℕ) → n < length flags → states.task_of x ≡ idle → map states.task_of tasks ≡ map (λ _. idle) (take n flags)
+    → map states.task_of (tasks ++ x ∷ []) ≡ map (λ _. idle) (take (n + 1) flags)
+idle_task tasks x flags n l e h = map-append states.task_of tasks (x ∷ []) ∙ (ap (λ xs. xs ++ states.task_of x ∷ []) h ∙ (ap (λ y. map (λ _. idle) (take n flags) ++ y ∷ []) e ∙ sym (idle_more flags n l)))

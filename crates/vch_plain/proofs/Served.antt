@@ -1,5 +1,5 @@
 -- A whole call, from its beginning to the state in which nothing of it is left.
-use Rattle.std.proofs.Common.{◌≡◌, ℕ, zero, suc, ◌+◌, ◌-◌, ◌<◌, ◌≤◌, ◌==◌, nat_lt, Bool, true, false, ◌||◌, List, [], ◌∷◌, refl, arith, sym, ap, ◌∙◌, subst, length, map, get_or, cond, Option, Some, None, pos, negsuc}
+use Rattle.std.proofs.Common.{◌≡◌, ℕ, zero, suc, ◌-◌, ◌<◌, ◌≤◌, ◌==◌, nat_lt, Bool, true, false, List, [], ◌∷◌, refl, arith, sym, ap, ◌∙◌, subst, length, map, get_or, cond, Option, Some, None, pos, negsuc}
 use Rattle.std.proofs.lemmas.Grind.{common_steps}
 use Rattle.std.proofs.Math.ListN.{set}
 use Rattle.vch_legal.proofs.SeenTasks.{member_seen}
@@ -19,11 +19,11 @@ use Rattle.vch_model.specs.Voucher.{Voucher}
 use Rattle.vch_machine.specs.Beginning.{begun_one, begin_call, store_reply, dropped, leaving_frame}
 use Rattle.vch_machine.specs.Frames.{closed, with_frame, noted, replied}
 use Rattle.vch_machine.specs.Naming.{handles_of, orphaned, places, item}
-use Rattle.vch_machine.specs.State.{Handles, Living, Named, Frame, Tally, Tasked, Machine, no_tally, idle, tasked, with_tasked, named_of, seen, member_of}
-use Rattle.vch_plain.specs.Calls.{Leads, Under, Left, Reaches, Goes, left_with, left_in, frame_with, phases_of, begins_of}
+use Rattle.vch_machine.specs.State.{Handles, Living, Named, Tally, Tasked, Machine, no_tally, idle, tasked, with_tasked, named_of, seen}
+use Rattle.vch_plain.specs.Calls.{Leads, Goes, left_with, left_in, frame_with, phases_of, begins_of}
 use Rattle.vch_plain.specs.Creates.{names_at, lost_name, is_named, left_of, reply_found, IsLost}
-use Rattle.vch_plain.specs.Serving.{IsNextCall, Arrives, Serves}
-use Rattle.vch_plain.specs.States.{state_of, task_of, live_of, user_voucher, option_voucher}
+use Rattle.vch_plain.specs.Serving.{Serves}
+use Rattle.vch_plain.specs.States.{state_of, live_of, user_voucher, option_voucher}
 use Rattle.vch_plain.specs.declared.state.Plain.{Plain}
 use Rattle.vch_plain.proofs.Leading.{leads_then}
 use Rattle.vch_plain.proofs.Going.{begins_by, begun_same, inside, under_same}

@@ -1,10 +1,8 @@
 -- A create goes on by its next record.
-use Rattle.std.proofs.Common.{Bor, ◌≡◌, ℕ, ◌+◌, ◌-◌, ◌<◌, ◌≤◌, ◌==◌, nat_lt, Bool, true, false, List, [], ◌∷◌, refl, arith, sym, ap, ◌∙◌, subst, length, take, drop, cond, inl, inr, Option, Some, None, Result, Ok, Err, ℤ, pos}
+use Rattle.std.proofs.Common.{Bor, ◌≡◌, ℕ, ◌+◌, ◌-◌, ◌<◌, ◌==◌, nat_lt, Bool, true, false, List, refl, arith, sym, ◌∙◌, subst, length, take, drop, cond, inl, inr, Option, Some, None, pos}
 use Rattle.std.proofs.lemmas.Grind.{common_steps}
 use Rattle.std.proofs.lemmas.List.{length-drop}
-use Rattle.vch_base.specs.declared.kind.Kind.TheVariants as kinds
-use Rattle.vch_base.specs.declared.value.Value.{Value}
-use Rattle.vch_recipe.specs.Recipes.{First, One, End, HeaderCut, ContentCut, first_of, content_of, word_at}
+use Rattle.vch_recipe.specs.Recipes.{First, One, End, HeaderCut, ContentCut, first_of, word_at}
 use Rattle.vch_recipe.specs.Step.{Answers}
 use Rattle.vch_recipe.specs.declared.recipe.Recipe.{Recipe}
 use Rattle.vch_recipe.specs.declared.step.Step.{Step}
@@ -12,9 +10,9 @@ use Rattle.vch_recipe.specs.declared.step.Step.TheVariants as steps
 use Rattle.vch_model.specs.Legal.{asks}
 use Rattle.vch_model.specs.UserOnly.{AsksUserOnly}
 use Rattle.vch_model.specs.declared.call.Call.TheVariants as calls
-use Rattle.vch_machine.specs.Next.{known_name, first_next}
+use Rattle.vch_machine.specs.Next.{known_name}
 use Rattle.vch_legal.proofs.RecordPlaces.{record_place, asks_behind}
-use Rattle.vch_plain.specs.Calls.{Goes, Left, left_with}
+use Rattle.vch_plain.specs.Calls.{Goes, left_with}
 use Rattle.vch_plain.specs.Creates.{names_at, reply_of, IsRefused, IsGiven, IsAsked, IsWorked, IsStep}
 use Rattle.vch_plain.specs.declared.create.Went.{Went}
 use Rattle.vch_plain.specs.declared.state.Plain.{Plain}

@@ -1,13 +1,10 @@
 -- The next line of a phase is the next call of its task.
-use Rattle.std.proofs.Common.{◌≡◌, ℕ, zero, suc, ◌+◌, ◌-◌, ◌<◌, ◌≤◌, ◌==◌, nat_lt, ◌&&◌, Bool, true, false, List, [], ◌∷◌, ◌++◌, refl, arith, sym, ap, ◌∙◌, subst, length, map, take, drop, get_or, cond, Option, Some, None}
-use Rattle.std.proofs.Math.ListN.{set}
+use Rattle.std.proofs.Common.{◌≡◌, ℕ, zero, suc, ◌+◌, ◌-◌, ◌<◌, ◌≤◌, ◌==◌, nat_lt, Bool, true, false, List, [], ◌∷◌, ◌++◌, refl, arith, sym, ap, ◌∙◌, subst, length, map, take, drop, get_or, cond, Some, None}
 use Rattle.std.proofs.lemmas.Grind.{common_steps}
-use Rattle.std.specs.Prelude.{nat_le, slice_get, if◌then◌else◌}
+use Rattle.std.specs.Prelude.{slice_get}
 use Rattle.std.specs.List.{filter, count_by, AllByRecursion}
-use Rattle.vch_model.specs.Lines.{is_task, phases_in, lines_from, lines_of, lines_until, line_at}
-use Rattle.vch_model.specs.UserOnly.{IsUserCall, IsUserOnly}
-use Rattle.vch_model.specs.Scenarios.{IsIn, IsLimited}
-use Rattle.vch_model.specs.declared.call.Call.{Call}
+use Rattle.vch_model.specs.Lines.{is_task, phases_in, lines_from, lines_until}
+use Rattle.vch_model.specs.Scenarios.{IsIn}
 use Rattle.vch_model.specs.declared.call.Line.{Line}
 use Rattle.vch_model.specs.declared.lists.Scenario.{Scenario}
 use Rattle.vch_machine.specs.Next.{call_in, nth_call}

@@ -1,5 +1,5 @@
 -- One record of a create, as the code answers it.
-use Rattle.std.specs.Prelude.{◌≡◌, ◌<◌, ◌≤◌, ◌-◌, ℕ, Bool, if◌then◌else◌, List, [], drop, length, map, slice_index_or, Option, Some, None, Result, Ok, Err, ℤ, pos}
+use Rattle.std.specs.Prelude.{◌≡◌, ◌<◌, ◌≤◌, ◌-◌, ℕ, Bool, if◌then◌else◌, List, drop, length, map, slice_index_or, Option, Some, None, Result, Ok, Err, ℤ, pos}
 use Rattle.std.specs.List.{list_any}
 use Rattle.vch_base.specs.declared.key.Key.TheVariants as keys
 use Rattle.vch_base.specs.declared.value.Value.{Value}

@@ -1,7 +1,6 @@
 -- A whole call in turn.
-use Rattle.std.specs.Prelude.{◌≡◌, ℕ, ◌+◌, ◌-◌, ◌==◌, nat_lt, true, List, [], length, take, slice_index_or, slice_set, Option, Some, None}
+use Rattle.std.specs.Prelude.{◌≡◌, ℕ, ◌+◌, ◌-◌, ◌==◌, nat_lt, true, [], length, take, slice_index_or, slice_set, Some}
 use Rattle.vch_model.specs.Lines.{is_task, lines_until}
-use Rattle.vch_model.specs.UserOnly.{IsUserCall}
 use Rattle.vch_model.specs.declared.call.Call.{Call}
 use Rattle.vch_model.specs.declared.call.Line.{Line}
 use Rattle.vch_model.specs.declared.lists.Scenario.{Scenario}

@@ -1,8 +1,8 @@
-use Rattle.std.proofs.Common.{◌≡◌, OnOk, Ok, Err, Result, ℕ, arith}
+use Rattle.std.proofs.Common.{OnOk, Ok, Err, Result, ℕ, arith}
 use Rattle.vch_base.specs.declared.fault.NoMemory.{NoMemory}
 use Rattle.vch_machine.specs.Naming as naming
 use Rattle.vch_machine.specs.State.{Tasked}
-use Rattle.vch_plain.specs.States.{task_of, user_voucher}
+use Rattle.vch_plain.specs.States.{user_voucher}
 use Rattle.vch_plain.proofs.Changes.{changed}
 use Rattle.vch_plain.proofs.change.give_name.Goals as goal
 

@@ -1,9 +1,5 @@
-use Rattle.std.proofs.Common.{◌≡◌, ◌≤◌, ap, sym, ◌∙◌, refl, subst, length}
-use Rattle.vch_base.specs.declared.key.Key.TheVariants as keys
-use Rattle.vch_model.specs.Eval.{answer_to}
-use Rattle.vch_machine.specs.State.{value_at}
-use Rattle.vch_plain.specs.Creates.{IsRefused, reply_of}
-use Rattle.vch_plain.specs.States.{live_of}
+use Rattle.std.proofs.Common.{◌≤◌, sym, refl, subst, length}
+use Rattle.vch_plain.specs.Creates.{IsRefused}
 use Rattle.vch_plain.proofs.Creating.{made_reply, given_handle, given_nothing, given_code}
 use Rattle.vch_plain.proofs.create.ask_record.Goals as goal
 

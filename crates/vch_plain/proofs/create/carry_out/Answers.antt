@@ -1,4 +1,4 @@
-use Rattle.std.proofs.Common.{◌≡◌, ◌<◌, ◌≤◌, arith, sym, subst, length, Some, None}
+use Rattle.std.proofs.Common.{arith, subst}
 use Rattle.vch_model.specs.declared.call.Call.TheVariants as calls
 use Rattle.vch_plain.specs.Creates.{IsStep}
 use Rattle.vch_plain.proofs.Outcomes.{on_ok}

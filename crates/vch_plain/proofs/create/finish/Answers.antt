@@ -1,4 +1,4 @@
-use Rattle.std.proofs.Common.{◌≡◌, ap, sym, ◌∙◌, ◌-◌, get_or}
+use Rattle.std.proofs.Common.{ap, sym, ◌∙◌, ◌-◌, get_or}
 use Rattle.std.specs.List.{list_any}
 use Rattle.vch_machine.specs.Naming.{task_knows}
 use Rattle.vch_model.specs.declared.call.Word.TheVariants as words

@@ -1,4 +1,4 @@
-use Rattle.std.proofs.Common.{◌≡◌, ap, sym, ◌∙◌, refl, subst, length, drop, List, []}
+use Rattle.std.proofs.Common.{ap, sym, ◌∙◌, refl, subst, length, drop, List, []}
 use Rattle.vch_recipe.specs.Recipes.{first_of}
 use Rattle.vch_model.specs.Legal.{asks}
 use Rattle.vch_machine.specs.Next.{known_name}

@@ -1,4 +1,4 @@
-use Rattle.std.proofs.Common.{◌≡◌, ap, sym, ◌∙◌, refl}
+use Rattle.std.proofs.Common.{ap, sym, ◌∙◌, refl}
 use Rattle.vch_recipe.specs.Recipes.{One}
 use Rattle.vch_machine.specs.Working.{work_first}
 use Rattle.vch_plain.specs.Records.{worked_of}

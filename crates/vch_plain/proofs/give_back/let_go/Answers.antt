@@ -1,4 +1,4 @@
-use Rattle.std.proofs.Common.{◌≡◌, OnOk, ap, sym, ◌∙◌, subst, Some, None}
+use Rattle.std.proofs.Common.{OnOk, sym, ◌∙◌, subst, None}
 use Rattle.vch_plain.specs.Calls.{Goes, left_with}
 use Rattle.vch_plain.proofs.Going.{goes_self}
 use Rattle.vch_plain.proofs.LettingGo.{goes_held, goes_given}

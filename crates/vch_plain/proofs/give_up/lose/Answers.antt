@@ -1,11 +1,11 @@
-use Rattle.std.proofs.Common.{◌≡◌, ap, sym, ◌∙◌, ◌-◌, get_or, Option}
+use Rattle.std.proofs.Common.{ap, ◌∙◌, ◌-◌, get_or}
 use Rattle.vch_model.specs.declared.call.Word.TheVariants as words
 use Rattle.vch_model.specs.declared.entry.Entry.TheVariants as entries
 use Rattle.vch_machine.specs.Frames.{noted}
 use Rattle.vch_machine.specs.Naming.{handles_of}
 use Rattle.vch_machine.specs.State.{tasked, with_tasked}
 use Rattle.vch_plain.specs.Calls.{begins_of}
-use Rattle.vch_plain.specs.Creates.{names_at, lost_name, reply_found}
+use Rattle.vch_plain.specs.Creates.{names_at, lost_name}
 use Rattle.vch_plain.specs.States.{state_of}
 use Rattle.vch_plain.proofs.give_up.lose.Goals as goal
 

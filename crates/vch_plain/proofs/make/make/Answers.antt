@@ -1,4 +1,4 @@
-use Rattle.std.proofs.Common.{◌≡◌, ℕ, ◌==◌, true, false, arith, sym, subst, length, Ok}
+use Rattle.std.proofs.Common.{◌≡◌, ◌==◌, true, arith, sym, subst, length, Ok}
 use Rattle.std.proofs.lemmas.Grind.{common_steps}
 use Rattle.vch_base.specs.declared.key.Key.TheVariants as keys
 use Rattle.vch_machine.specs.State.{value_at}

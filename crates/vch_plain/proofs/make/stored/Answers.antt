@@ -1,10 +1,9 @@
-use Rattle.std.proofs.Common.{◌≡◌, ℕ, inr, ap, sym, ◌∙◌, IfOk, OnOk, Result, Ok, Err, None}
+use Rattle.std.proofs.Common.{ℕ, inr, ap, sym, ◌∙◌, IfOk, OnOk, Result, Ok, Err}
 use Rattle.vch_base.specs.declared.fault.NoMemory.{NoMemory}
 use Rattle.vch_base.specs.declared.value.Value.TheVariants as values
 use Rattle.vch_base.specs.declared.key.Key.TheVariants as keys
 use Rattle.vch_machine.specs.State.{Tally, no_tally, handle_of}
 use Rattle.vch_plain.specs.States.{live_of}
-use Rattle.vch_plain.specs.Making.{IsHanded}
 use Rattle.vch_plain.proofs.make.stored.Goals as goal
 
 pub returns-in-None : goal.returns-in-None

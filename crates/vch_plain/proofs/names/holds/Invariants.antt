@@ -1,8 +1,7 @@
 use Rattle.std.proofs.Common.{◌≡◌, drop, map}
 use Rattle.std.specs.List.{list_any}
 use Rattle.vch_machine.specs.State.{task_holds}
-use Rattle.vch_machine.specs.Naming as naming
-use Rattle.vch_plain.specs.States.{task_of, user_voucher, user_place}
+use Rattle.vch_plain.specs.States.{task_of, user_place}
 use Rattle.vch_plain.proofs.names.holds.Given as goal
 
 abbrev pub invariant-loop-task : goal.invariant-loop-task

@@ -1,8 +1,7 @@
-use Rattle.std.proofs.Common.{◌≡◌, drop, map}
+use Rattle.std.proofs.Common.{◌≡◌, drop}
 use Rattle.std.specs.List.{list_any}
 use Rattle.vch_machine.specs.State.{has_place}
-use Rattle.vch_machine.specs.Naming as naming
-use Rattle.vch_plain.specs.States.{names_of, user_voucher, user_place}
+use Rattle.vch_plain.specs.States.{names_of, user_place}
 use Rattle.vch_plain.proofs.names.names_hold.Given as goal
 
 abbrev pub invariant-loop-named : goal.invariant-loop-named

@@ -1,6 +1,6 @@
-use Rattle.std.proofs.Common.{◌≡◌, drop, map}
+use Rattle.std.proofs.Common.{◌≡◌, drop}
 use Rattle.vch_machine.specs.Naming as naming
-use Rattle.vch_plain.specs.States.{names_of, user_voucher, user_place}
+use Rattle.vch_plain.specs.States.{names_of}
 use Rattle.vch_plain.proofs.names.voucher_of.Given as goal
 
 abbrev pub invariant-loop-named : goal.invariant-loop-named

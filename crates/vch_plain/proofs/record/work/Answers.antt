@@ -1,4 +1,4 @@
-use Rattle.std.proofs.Common.{◌≡◌, Some, true, false, arith, sym}
+use Rattle.std.proofs.Common.{◌≡◌, Some, true, false, arith}
 use Rattle.std.proofs.lemmas.Grind.{common_steps}
 use Rattle.std.specs.Prelude.{◌==◌}
 use Rattle.vch_machine.specs.Naming.{handles_of}

@@ -1,4 +1,4 @@
-use Rattle.std.proofs.Common.{◌≡◌, ◌<◌, ◌≤◌, ◌==◌, arith, ap, ◌∙◌, ◌-◌, subst, length, get_or, negsuc, ℤ}
+use Rattle.std.proofs.Common.{arith, ap, ◌∙◌, ◌-◌, get_or, ℤ}
 use Rattle.std.proofs.lemmas.Grind.{common_steps}
 use Rattle.vch_model.specs.Replies.{refused}
 use Rattle.vch_model.specs.declared.call.Word.TheVariants as words

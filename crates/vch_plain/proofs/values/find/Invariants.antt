@@ -1,9 +1,8 @@
-use Rattle.std.proofs.Common.{◌≡◌, drop, map}
+use Rattle.std.proofs.Common.{◌≡◌, drop}
 use Rattle.vch_base.specs.declared.key.Key.TheVariants as keys
 use Rattle.vch_base.specs.declared.value.Value.TheVariants as values
-use Rattle.vch_machine.specs.State.{handle_of, living_at}
-use Rattle.vch_machine.specs.Leaving.{made_of}
-use Rattle.vch_plain.specs.States.{live_of, user_place}
+use Rattle.vch_machine.specs.State.{handle_of}
+use Rattle.vch_plain.specs.States.{live_of}
 use Rattle.vch_plain.proofs.values.find.Given as goal
 
 abbrev pub invariant-loop-living : goal.invariant-loop-living

@@ -1,7 +1,5 @@
-use Rattle.std.proofs.Common.{◌≡◌, drop, map}
-use Rattle.vch_base.specs.declared.key.Key.TheVariants as keys
-use Rattle.vch_base.specs.declared.value.Value.TheVariants as values
-use Rattle.vch_machine.specs.State.{handle_of, living_at}
+use Rattle.std.proofs.Common.{◌≡◌, drop}
+use Rattle.vch_machine.specs.State.{living_at}
 use Rattle.vch_machine.specs.Leaving.{made_of}
 use Rattle.vch_plain.specs.States.{live_of, user_place}
 use Rattle.vch_plain.proofs.values.made_at.Given as goal
