@@ -1,17 +1,22 @@
 -- Live values in a list.
-use Rattle.std.proofs.Common.{◌≡◌, ℕ, List, [], ◌∷◌, refl, sym, ap, ◌∙◌, subst, Bool, true, false, not, cond, Some, None}
+use Rattle.std.proofs.Common.{◌≡◌, ℕ, arith, List, [], ◌∷◌, refl, sym, ap, ◌∙◌, subst, Bool, true, false, not, cond, Some, None}
 use Rattle.std.specs.Prelude.{◌==◌}
 use Rattle.std.specs.List.{filter}
 use Rattle.vch_machine.specs.State as machine
 use Rattle.vch_base.specs.declared.key.Key.TheVariants as keys
 use Rattle.vch_base.specs.declared.value.Value.{Value}
 use Rattle.vch_base.specs.declared.value.Value.TheVariants as values
-use Rattle.vch_base.specs.Values.{equal_values}
-use Rattle.vch_model.proofs.RowLaws.{equal_lists-same}
+use Rattle.vch_base.specs.Values.{equal_lists, equal_values}
+use Rattle.std.proofs.lemmas.Grind.{common_steps}
 use Rattle.vch_machine.specs.State.{without_place, value_at, value_of, living_at, handle_of}
 use Rattle.vch_plain.specs.declared.state.Living.{Living}
 use Rattle.vch_plain.specs.States.{living_of, live_of, user_place}
 use Rattle.std.proofs.Common.{map}
+
+-- a list is equal to itself
+equal_lists-same : (a : List ℕ) → equal_lists a a ≡ true
+equal_lists-same [] = refl
+equal_lists-same (x ∷ a) = let same : (x == x) ≡ true = grind (arith, common_steps) in rw (same, equal_lists-same a) refl
 
 without_rest : (live : List Living) (h : ℕ) → map living_of (filter (λ (l : Living). not (l.handle == h)) live) ≡ without_place (map living_of live) (user_place h)
 without_rest [] h = refl
