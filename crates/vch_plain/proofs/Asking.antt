@@ -1,5 +1,6 @@
 -- Which managers the records of a create ask, record by record.
-use Rattle.std.proofs.Common.{◌≡◌, ℕ, ◌+◌, ◌≤◌, Bool, true, false, List, [], ◌∷◌, refl, sym, ap, ◌∙◌, subst, length, drop, arith}
+use Rattle.std.proofs.Common.{◌≡◌, ℕ, zero, suc, ◌+◌, ◌≤◌, Some, Bool, true, false, List, [], ◌∷◌, refl, sym, ap, ◌∙◌, subst, length, drop, arith}
+use Rattle.std.specs.Prelude.{slice_get}
 use Rattle.vch_recipe.specs.Recipes.{First, One, first_of}
 use Rattle.vch_recipe.specs.declared.recipe.Recipe.{Recipe}
 use Rattle.vch_model.specs.UserOnly.{AsksUserOnly, Begins, asks_other}
@@ -42,3 +43,11 @@ asked_other bytes at r rest first other a u = no other (a.from u [] (drop at byt
   where
     no : {b : Bool} → b ≡ true → b ≡ false → ⊥
     no x y = cc
+
+pub drop_next : {A : Type 0} (xs : List A) (i : ℕ) (x : A) → slice_get xs i ≡ Some x → drop i xs ≡ x ∷ drop (i + 1) xs
+drop_next [] i x e = cc
+drop_next (y ∷ xs) zero x e = let z : y ≡ x = cc in ap (λ w. w ∷ xs) z
+drop_next (y ∷ xs) (suc i) x e = drop_next xs i x e ∙ ap (λ n. x ∷ drop n (y ∷ xs)) (next i)
+  where
+    next : (i : ℕ) → suc (i + 1) ≡ suc i + 1
+    next i = omega arith

@@ -1,8 +1,9 @@
 ghost use Rattle.std.specs.Prelude.{◌≡◌, ◌↔◌, ℕ, List, IsTrue};
 ghost use Rattle.vch_model.specs.UserOnly as user;
-ghost use Rattle.vch_model.specs.UserOnly.{AsksUserOnly, IsUserCall};
+ghost use Rattle.vch_model.specs.UserOnly.{AsksUserOnly, IsUserCall, IsUserOnly};
+ghost use Rattle.vch_plain.specs.Built.{AreUserLines};
 
-use vch_model::Call;
+use vch_model::{Call, LineList, Scenario};
 use vch_recipe::{Step, next_recipe};
 
 /// The number that stands for all keys.
@@ -33,7 +34,7 @@ fn asks_user_only(bytes: &[u8]) -> bool
 }
 
 /// Whether `play_plain` can run a call: a drop, or a create whose records ask no manager but that of user data.
-pub fn is_user_call(call: &Call) -> bool
+fn is_user_call(call: &Call) -> bool
     ensures { IsTrue result ↔ IsUserCall call.now }
 {
     match call {
@@ -41,4 +42,29 @@ pub fn is_user_call(call: &Call) -> bool
         Call::GiveUp { .. } => true,
         _ => false,
     }
+}
+
+/// Whether `play_plain` can run all lines of a phase.
+fn are_user_lines(lines: &LineList) -> bool
+    ensures { IsTrue result ↔ AreUserLines lines.now }
+{
+    for i in 0..lines.len() {
+        if !is_user_call(&lines.at(i).call) {
+            return false;
+        }
+    }
+    true
+}
+
+/// Whether `play_plain` can run a scenario: each of its calls is a drop, or a create whose records ask no manager but that
+/// of user data. The time is linear in the size of the scenario.
+pub fn is_user_only(scenario: &Scenario) -> bool
+    ensures { IsTrue result ↔ IsUserOnly scenario.now }
+{
+    for i in 0..scenario.phases.len() {
+        if !are_user_lines(scenario.phases.at(i)) {
+            return false;
+        }
+    }
+    true
 }

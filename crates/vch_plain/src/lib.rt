@@ -33,5 +33,5 @@ mod serve;
 mod state;
 mod values;
 
-pub use built::is_user_call;
+pub use built::is_user_only;
 pub use play::play_plain;
