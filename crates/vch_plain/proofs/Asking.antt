@@ -1,7 +1,7 @@
 -- Which managers the records of a create ask, record by record.
 use Rattle.std.proofs.Common.{◌≡◌, ℕ, zero, suc, ◌+◌, ◌≤◌, Some, Bool, true, false, List, [], ◌∷◌, refl, sym, ap, ◌∙◌, subst, length, drop, arith}
 use Rattle.std.specs.Prelude.{slice_get}
-use Rattle.vch_recipe.specs.Recipes.{First, One, first_of}
+use Rattle.vch_recipe.specs.Recipes.{One, first_of}
 use Rattle.vch_recipe.specs.declared.recipe.Recipe.{Recipe}
 use Rattle.vch_model.specs.UserOnly.{AsksUserOnly, Begins, asks_other}
 use Rattle.vch_legal.proofs.Creates.{behind}

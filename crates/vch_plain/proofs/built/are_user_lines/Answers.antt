@@ -1,4 +1,4 @@
-use Rattle.std.proofs.Common.{◌≡◌, ◌+◌, ◌∷◌, drop, IsTrue, true, false, subst, sym, ◌∙◌, refl}
+use Rattle.std.proofs.Common.{◌≡◌, ◌+◌, ◌∷◌, drop, IsTrue, subst, sym}
 use Rattle.vch_plain.specs.Built.{AreUserLines}
 use Rattle.vch_plain.proofs.Asking.{drop_next}
 use Rattle.vch_plain.proofs.built.are_user_lines.Goals as goal

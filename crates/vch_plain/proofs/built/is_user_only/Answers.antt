@@ -1,4 +1,4 @@
-use Rattle.std.proofs.Common.{◌≡◌, ◌+◌, ◌∷◌, drop, IsTrue, true, false, subst, sym, ◌∙◌, refl}
+use Rattle.std.proofs.Common.{◌≡◌, ◌+◌, ◌∷◌, drop, IsTrue, subst, sym}
 use Rattle.vch_plain.specs.Built.{AreUserPhases}
 use Rattle.vch_plain.proofs.Asking.{drop_next}
 use Rattle.vch_plain.proofs.built.is_user_only.Goals as goal
