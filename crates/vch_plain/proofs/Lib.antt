@@ -15,3 +15,4 @@ mod Beginning
 mod Served
 mod Turns
 mod Playing
+mod Asking

@@ -5,3 +5,4 @@ pub mod Calls
 pub mod Making
 pub mod Creates
 pub mod Serving
+pub mod Built

@@ -19,6 +19,7 @@
 //! Where the second record stores `ab` again, the map still has it when it is let go, and it stays.
 #![tactic(auto)]
 
+mod built;
 mod change;
 mod create;
 mod give_back;
@@ -32,4 +33,5 @@ mod serve;
 mod state;
 mod values;
 
+pub use built::is_user_only;
 pub use play::play_plain;
