@@ -1,3 +1,4 @@
+pub mod Rests
 pub mod Growing
 pub mod Framed
 pub mod Passing

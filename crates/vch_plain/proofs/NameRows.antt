@@ -25,7 +25,7 @@ pub more_at_place : (names : List Named) (i name : ℕ) (n : Named) → i < leng
     → names_of (set names i (record n { refs = n.refs + 1 })) ≡ naming.one_more (names_of names) name
 more_at_place names i name n inside is named rest =
     let more : naming.one_more (names_of (drop i names)) name ≡ named_of (record n { refs = n.refs + 1 }) ∷ names_of (drop (suc i) names) =
-        ap (λ l. naming.one_more (names_of l) name) (from_place names i n inside is) ∙ rw (own n.name name named) refl in
+    ap (λ l. naming.one_more (names_of l) name) (from_place names i n inside is) ∙ rw (own n.name name named) refl in
     placed names i (record n { refs = n.refs + 1 }) inside ∙ sym (ap (λ l. names_of (take i names) ++ l) more) ∙ rest
 
 pub less_at_place : (names : List Named) (i name : ℕ) (n : Named) → i < length names → n ≡ get_or names i n → n.name ≡ name → 1 < n.refs
@@ -34,7 +34,7 @@ pub less_at_place : (names : List Named) (i name : ℕ) (n : Named) → i < leng
 less_at_place names i name n inside is named many rest =
     let several : nat_lt 1 n.refs ≡ true = grind (arith, common_steps) in
     let less : naming.one_less (names_of (drop i names)) name ≡ named_of (record n { refs = n.refs - 1 }) ∷ names_of (drop (suc i) names) =
-        ap (λ l. naming.one_less (names_of l) name) (from_place names i n inside is) ∙ rw (own n.name name named, several) refl in
+    ap (λ l. naming.one_less (names_of l) name) (from_place names i n inside is) ∙ rw (own n.name name named, several) refl in
     placed names i (record n { refs = n.refs - 1 }) inside ∙ sym (ap (λ l. names_of (take i names) ++ l) less) ∙ rest
 
 pub less_at_gone : (names : List Named) (i name : ℕ) (n : Named) → i < length names → n ≡ get_or names i n → n.name ≡ name → n.refs ≤ 1
@@ -43,5 +43,5 @@ pub less_at_gone : (names : List Named) (i name : ℕ) (n : Named) → i < lengt
 less_at_gone names i name n inside is named few rest =
     let last : nat_lt 1 n.refs ≡ false = grind (arith, common_steps) in
     let less : naming.one_less (names_of (drop i names)) name ≡ names_of (drop (suc i) names) =
-        ap (λ l. naming.one_less (names_of l) name) (from_place names i n inside is) ∙ rw (own n.name name named, last) refl in
+    ap (λ l. naming.one_less (names_of l) name) (from_place names i n inside is) ∙ rw (own n.name name named, last) refl in
     gone names i ∙ sym (ap (λ l. names_of (take i names) ++ l) less) ∙ rest

@@ -120,7 +120,7 @@ line_done sc phase i p q line limited more e at s =
         let l = at.long in
         let d = task_bounds sc t task in let d0 = d.0 in let d1 = d.1 in
         let x : get_or (set (begins_of p) (line.task - 1) (get_or (begins_of p) (line.task - 1) 0 + 1)) (t - 1) 0 ≡ get_or (begins_of p) (t - 1) 0 + 1 =
-            ap (λ u. get_or (set (begins_of p) (u - 1) (get_or (begins_of p) (u - 1) 0 + 1)) (t - 1) 0) z ∙ get_set (begins_of p) (t - 1) (get_or (begins_of p) (t - 1) 0 + 1) (omega (arith, l, d0, d1)) in
+        ap (λ u. get_or (set (begins_of p) (u - 1) (get_or (begins_of p) (u - 1) 0 + 1)) (t - 1) 0) z ∙ get_set (begins_of p) (t - 1) (get_or (begins_of p) (t - 1) 0 + 1) (omega (arith, l, d0, d1)) in
         let y = at.begun t task in
         let w : bit (line.task == t) ≡ 1 = ap bit k in
         omega (arith, x, y, w)

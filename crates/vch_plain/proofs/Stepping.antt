@@ -47,10 +47,12 @@ module _ (t : ℕ) (bytes : List ℕ) (p : Plain) (at : ℕ) (handle : Option �
   goes_on : (w : Went) (q : Plain) → w.next ≡ next
       → Goes t (calls.Create bytes) p (left_with (Some handle) at None) q (left_with (Some w.handle) (at + (16 + length r.content)) w.left) → IsStep t bytes p at handle (Some w) q
   goes_on w q e g =
-      let n : w.next ≡ at + (16 + length r.content) = e ∙ next_is in
-      (subst (λ k. Goes t (calls.Create bytes) p (left_with (Some handle) at None) q (left_with (Some w.handle) k w.left)) (sym n) g,
-      omega (arith, e, place), omega (arith, n),
-      subst (λ k. AsksUserOnly (drop k bytes)) (sym n) (asks_behind bytes at r rest first user))
+      let n : w.next ≡ at + (16 + length r.content) = e ∙ next_is in (
+        subst (λ k. Goes t (calls.Create bytes) p (left_with (Some handle) at None) q (left_with (Some w.handle) k w.left)) (sym n) g,
+        omega (arith, e, place),
+        omega (arith, n),
+        subst (λ k. AsksUserOnly (drop k bytes)) (sym n) (asks_behind bytes at r rest first user),
+      )
 
   pub steps_worked : (o : Option Went) (q : Plain) → asks (known_name (names_at p t)) r ≡ false → IsWorked p t handle r next o q → IsStep t bytes p at handle o q
   steps_worked None q a i = work_refused p t bytes at handle q i.0 (rw (first, a) refl) (rw first (i.1 rest)) i.2

@@ -119,7 +119,7 @@ pub next_call : (sc : Scenario) (p i : ℕ) (line : Line) → slice_get (get_or 
 next_call sc p i line e =
     let r = in_phases line.task 1 sc.phases p i line e in
     let n : (lines_until sc p line.task + of line.task (take i (get_or sc.phases p [])) + 1) - 1 ≡ length (filter (λ (l : ℕ × Line). l.1.task == line.task) r.earlier) =
-        let a = until_before sc line.task p in let b = r.count in omega (arith, a, b) in
+    let a = until_before sc line.task p in let b = r.count in omega (arith, a, b) in
     ap call_in (ap (λ xs. slice_get (filter (λ (l : ℕ × Line). l.1.task == line.task) xs) ((lines_until sc p line.task + of line.task (take i (get_or sc.phases p [])) + 1) - 1)) r.split
     ∙ at_start (λ (l : ℕ × Line). l.1.task == line.task) r.earlier r.later (r.number, line) _ (own_number line.task) n)
 

@@ -22,7 +22,10 @@ fn asks_user_only(bytes: &[u8]) -> bool
 {
     let mut at = 0;
     while let Step::One {
-        key, command, next, ..
+        key,
+        command,
+        next,
+        ..
     } = next_recipe(bytes, at)
     {
         if asks_other(key, command) {

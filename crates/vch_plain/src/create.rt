@@ -149,12 +149,7 @@ fn finish(plain: &mut Plain, task: u32, handle: Option<u64>) -> Result<Option<u6
 }
 
 /// The records of a create one by one, each with what it lets go; then the voucher gets its name.
-pub fn carry_out(
-    plain: &mut Plain,
-    alloc: Global,
-    task: u32,
-    bytes: &[u8],
-) -> Result<(), NoMemory>
+pub fn carry_out(plain: &mut Plain, alloc: Global, task: u32, bytes: &[u8]) -> Result<(), NoMemory>
     requires task { (1 ≤ task) × (task ≤ length plain.old.tasks.items) }
     requires user { AsksUserOnly bytes.now }
     ensures { OnOk result (Goes task (calls.Create bytes.now) plain.old (left_with (Some None) 0 None) plain.new (left_with None 0 None)) }

@@ -19,7 +19,11 @@ fn is_held(plain: &Plain, forming: Option<Option<u64>>, handle: u64) -> bool
 
 /// A call lets a handle go. Its value is given back where no voucher has the handle any more, the one that the call forms
 /// included.
-pub fn let_go(plain: &mut Plain, forming: Option<Option<u64>>, left: Option<u64>) -> Result<(), NoMemory>
+pub fn let_go(
+    plain: &mut Plain,
+    forming: Option<Option<u64>>,
+    left: Option<u64>,
+) -> Result<(), NoMemory>
     ensures { (t : ℕ) (call : Call) (at : ℕ) → OnOk result (Goes t call plain.old (left_with forming at left) plain.new (left_with forming at None)) }
 {
     let Some(handle) = left else {

@@ -7,8 +7,9 @@ use std::test::Fail;
 use vch_base::Kind;
 use vch_core::{Stepped, are_tasks, drive, finish, step};
 use vch_model::Scenario;
+use vch_plain::is_user_only;
 use vch_report::report_of;
-use vch_state::{Core, is_user_only};
+use vch_state::Core;
 
 /// A scenario, the order of its first events, and the report that it must come to.
 struct Row {

@@ -9,9 +9,10 @@ use std::alloc::Global;
 use vch_base::NoMemory;
 use vch_core::{drive_seed, finish};
 use vch_model::Scenario;
+use vch_plain::is_user_only;
 use vch_report::report_of;
 use vch_scenario::ScenarioFault;
-use vch_state::{Core, is_user_only};
+use vch_state::Core;
 
 /// The report of a scenario's run in turn.
 fn turn_text(alloc: Global, scenario: &Scenario) -> Result<Vec<u8>, NoMemory>

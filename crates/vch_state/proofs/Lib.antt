@@ -39,4 +39,3 @@ pub mod SlotsCounted
 pub mod PhaseEnds
 pub mod Loops
 pub mod RunOn
-pub mod UserRecords

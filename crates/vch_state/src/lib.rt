@@ -66,7 +66,6 @@ mod state;
 mod tally;
 #[cfg(test)]
 mod tests;
-mod user_only;
 mod value;
 
 pub use forming::put_index;
@@ -81,4 +80,3 @@ pub use spaces::Spaces;
 pub use start::count_calls;
 pub use state::Core;
 pub use tally::Tally;
-pub use user_only::is_user_only;

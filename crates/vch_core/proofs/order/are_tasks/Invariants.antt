@@ -1,6 +1,6 @@
 use Rattle.std.proofs.Common.{◌≡◌, true}
 use Rattle.vch_model.specs.Lines.{is_task}
-use Rattle.vch_state.proofs.UserRecords.{AllRest}
+use Rattle.vch_core.proofs.Rests.{AllRest}
 use Rattle.vch_core.proofs.order.are_tasks.Given as goal
 
 abbrev pub invariant-loop-i : goal.invariant-loop-i

@@ -12,11 +12,17 @@ use Rattle.std.proofs.Common.{map}
 use Rattle.vch_plain.proofs.create.finish.Goals as goal
 
 pub returns-then-known : goal.returns-then-known
-returns-then-known c = (c.give_name.new.plain,
-    ap (λ b. left_if b c.args.handle) (sym c.if-known.true ∙ c.knows-known.ensures ∙ ap (λ xs. list_any (task_knows (user_voucher c.args.handle)) (map task_of xs)) c.as_slice.ensures.value),
-    c.in_ok-give_name.ensures.state, λ k. c.in_ok-answer.ensures.state k ∙ ap (λ n. noted (state_of c.give_name.new.plain k) (entries.Call c.args.task (get_or (begins_of c.give_name.new.plain) (c.args.task - 1) 0) words.Create (replies.Created n))) (c.in_ok-name.ensures ∙ c.in_ok-give_name.ensures.name k))
+returns-then-known c = (
+  c.give_name.new.plain,
+  ap (λ b. left_if b c.args.handle) (sym c.if-known.true ∙ c.knows-known.ensures ∙ ap (λ xs. list_any (task_knows (user_voucher c.args.handle)) (map task_of xs)) c.as_slice.ensures.value),
+  c.in_ok-give_name.ensures.state,
+  λ k. c.in_ok-answer.ensures.state k ∙ ap (λ n. noted (state_of c.give_name.new.plain k) (entries.Call c.args.task (get_or (begins_of c.give_name.new.plain) (c.args.task - 1) 0) words.Create (replies.Created n))) (c.in_ok-name.ensures ∙ c.in_ok-give_name.ensures.name k),
+)
 
 pub returns-else-known : goal.returns-else-known
-returns-else-known c = (c.give_name.new.plain,
-    ap (λ b. left_if b c.args.handle) (sym c.if-known.false ∙ c.knows-known.ensures ∙ ap (λ xs. list_any (task_knows (user_voucher c.args.handle)) (map task_of xs)) c.as_slice.ensures.value),
-    c.in_ok-give_name.ensures.state, λ k. c.in_ok-answer.ensures.state k ∙ ap (λ n. noted (state_of c.give_name.new.plain k) (entries.Call c.args.task (get_or (begins_of c.give_name.new.plain) (c.args.task - 1) 0) words.Create (replies.Created n))) (c.in_ok-name.ensures ∙ c.in_ok-give_name.ensures.name k))
+returns-else-known c = (
+  c.give_name.new.plain,
+  ap (λ b. left_if b c.args.handle) (sym c.if-known.false ∙ c.knows-known.ensures ∙ ap (λ xs. list_any (task_knows (user_voucher c.args.handle)) (map task_of xs)) c.as_slice.ensures.value),
+  c.in_ok-give_name.ensures.state,
+  λ k. c.in_ok-answer.ensures.state k ∙ ap (λ n. noted (state_of c.give_name.new.plain k) (entries.Call c.args.task (get_or (begins_of c.give_name.new.plain) (c.args.task - 1) 0) words.Create (replies.Created n))) (c.in_ok-name.ensures ∙ c.in_ok-give_name.ensures.name k),
+)
