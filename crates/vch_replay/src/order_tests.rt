@@ -7,7 +7,7 @@ use std::test::Fail;
 use vch_base::Kind;
 use vch_core::{Stepped, are_tasks, drive, finish, step};
 use vch_model::Scenario;
-use vch_plain::is_user_only;
+use vch_plain::{is_user_only, play_plain};
 use vch_report::report_of;
 use vch_state::Core;
 
@@ -76,6 +76,29 @@ fn worked_orders(rt: HostRuntime) -> Result<(), Fail> {
         let scenario = scenario_of(alloc, row.scenario)?;
         let report = ordered(alloc, &scenario, row.order)?;
         assert_eq!(rt; report.as_slice(), row.report.as_bytes());
+    }
+    Ok(())
+}
+
+/// How many entries the plain run of a scenario has.
+fn plain_entries(alloc: Global, scenario: &Scenario) -> Result<usize, Fail>
+    requires { IsWritable scenario.now }
+{
+    if !is_user_only(scenario) {
+        return Err(Fail::new("not only creates and drops"));
+    }
+    let history = play_plain(alloc, scenario)?;
+    Ok(history.len())
+}
+
+/// In turn each value is released before it is made again.
+#[test]
+fn plain_runs(rt: HostRuntime) -> Result<(), Fail> {
+    let alloc = rt.alloc();
+    let entries = [7, 9, 8];
+    for i in 0..3 {
+        let scenario = scenario_of(alloc, ROWS[i].scenario)?;
+        assert_eq!(rt; plain_entries(alloc, &scenario)?, entries[i]);
     }
     Ok(())
 }
