@@ -9,7 +9,7 @@ use crate::flying::flying;
 use crate::question::{content_at, read_question};
 use vch_base::{GetFault, Key, NoMemory};
 use vch_model::Entry;
-use vch_state::{Parts, count_calls};
+use vch_state::Parts;
 use vch_value::Made;
 
 /// Makes room for a fresh value: in the history, for its Made entry and for the Released entry that it owes then, and for
@@ -24,8 +24,7 @@ fn make_room(parts: &mut Parts) -> Result<(), NoMemory>
     ensures room { OnOk result (HasRoom parts.new) }
 {
     let handles = parts.user.handles();
-    let scenario = parts.scenario.scenario();
-    let owed = count_calls(&scenario.phases) + scenario.phases.len() + handles;
+    let owed = parts.scenario.calls() + parts.scenario.scenario().phases.len() + handles;
     parts.history.reserve(owed + 2)?;
     parts.made.reserve(Key::User, handles as u32)
 }

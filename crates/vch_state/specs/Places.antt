@@ -1,7 +1,10 @@
 -- Where the lines of each task stand in a scenario.
 use Rattle.std.specs.Prelude.{◌≡◌, ℕ, ◌+◌, ◌-◌, ◌==◌, if◌then◌else◌, List, [], ◌++◌, length, map, take, slice_get, slice_index_or, Option, Some, None}
 use Rattle.std.specs.List.{filter}
+use Rattle.vch_model.specs.Lines.{lines_from}
+use Rattle.vch_model.specs.Scenarios.{line_count}
 use Rattle.vch_model.specs.declared.call.Line.{Line}
+use Rattle.vch_model.specs.declared.lists.Scenario.{Scenario}
 use Rattle.vch_state.specs.declared.places.Spot.{Spot}
 
 -- a line with the number of its phase
@@ -21,6 +24,11 @@ spots_of places t = if t == 0 then [] else slice_index_or places (t - 1) []
 pub record Placed (tasks : ℕ) (phases : List (List Line)) (lines : List (ℕ × Line)) (places : List (List Spot)) : Type 0 where
   pub long : length places ≡ tasks
   pub each : (t : ℕ) → map (line_at_spot phases) (spots_of places t) ≡ map (λ l. Some l) (filter (λ l. l.1.task == t) lines)
+
+-- what is kept of a scenario: where the lines of each task stand, and how many calls there are
+pub record IsIndexOf (sc : Scenario) (places : List (List Spot)) (calls : ℕ) : Type 0 where
+  pub placed : Placed (length sc.flags) sc.phases (lines_from 1 sc.phases) places
+  pub counted : calls ≡ line_count sc.phases
 
 -- the first lines of a phase, with its number
 abbrev pub first_lines : List (List Line) → ℕ → ℕ → List (ℕ × Line)

@@ -77,6 +77,5 @@ pub use parts::Parts;
 pub use record::next_place;
 pub use script::Script;
 pub use spaces::Spaces;
-pub use start::count_calls;
 pub use state::Core;
 pub use tally::Tally;

@@ -1,33 +1,45 @@
-ghost use Rattle.std.specs.Prelude.{◌≡◌, ◌<◌, ◌+◌, ◌↔◌, IfOk, IsTrue, length};
+ghost use Rattle.std.specs.Prelude.{◌≡◌, ◌≤◌, ◌<◌, ◌+◌, ◌↔◌, IfOk, IsTrue};
 ghost use Rattle.std.specs.Option.{option_copied};
 ghost use Rattle.vch_model.specs.Lines.{lines_until};
+ghost use Rattle.vch_model.specs.Scenarios.{IsLimited, line_count};
 ghost use Rattle.vch_machine.specs.Next.{nth_call};
-ghost use Rattle.vch_state.specs.Bounds.{AreOfTasks};
 
 use crate::places::{Places, places_of};
 use std::alloc::Global;
 use std::marker::Model;
 use vch_base::NoMemory;
-use vch_model::{Call, Scenario};
+use vch_model::{Call, PhaseList, Scenario};
 
-/// A scenario, with the places of each task's calls: a call of a task is found by its number without a look at others.
+/// A scenario, with the places of each task's calls and the number of all calls: a call of a task is found by its number
+/// without a look at others.
 #[derive(Drop)]
 pub struct Script {
     scenario: Scenario,
     places: Places,
+    calls: usize,
 }
 
 impl Model for Script {
-    ghost use Rattle.std.specs.Prelude.{length};
     ghost use Rattle.vch_model.specs.declared.lists.Scenario.{Scenario};
-    ghost use Rattle.vch_model.specs.Lines.{lines_from};
-    ghost use Rattle.vch_state.specs.Places.{Placed};
+    ghost use Rattle.vch_state.specs.Places.{IsIndexOf};
 
     ghost Value = { Scenario };
 
     ghost view = { λ s. s.scenario };
 
-    ghost invariant = { λ s. Placed (length s.scenario.flags) s.scenario.phases (lines_from 1 s.scenario.phases) s.places };
+    ghost invariant = { λ s. IsIndexOf s.scenario s.places s.calls };
+}
+
+/// How many calls there are in all phases. The time is linear in the number of phases.
+fn count_calls(phases: &PhaseList) -> usize
+    requires { line_count phases.now ≤ 1048576 }
+    ensures { result ≡ line_count phases.now }
+{
+    let mut count = 0;
+    for i in 0..phases.len() {
+        count += phases.at(i).len();
+    }
+    count
 }
 
 impl Script {
@@ -37,11 +49,16 @@ impl Script {
     ///
     /// Want of memory alone.
     pub fn new(alloc: Global, scenario: Scenario) -> Result<Script, NoMemory>
-        requires { AreOfTasks (length scenario.flags) scenario.phases }
+        requires { IsLimited scenario }
         ensures { IfOk result (λ made. made ≡ scenario) }
     {
         let places = places_of(alloc, &scenario)?;
-        Ok(Script { scenario, places })
+        let calls = count_calls(&scenario.phases);
+        Ok(Script {
+            scenario,
+            places,
+            calls,
+        })
     }
 
     /// The scenario.
@@ -49,6 +66,13 @@ impl Script {
         ensures { result.now ≡ self.now }
     {
         &self.scenario
+    }
+
+    /// The number of calls of all tasks. Constant time.
+    pub fn calls(&self) -> usize
+        ensures { result ≡ line_count self.now.phases }
+    {
+        self.calls
     }
 
     /// The call of a task with a number, counted from 1, or nothing where the task has no such call. Constant time.

@@ -1,5 +1,5 @@
 ghost use Rattle.std.specs.Prelude.{◌≡◌, ◌≤◌, ◌<◌, ◌+◌, IfOk, length};
-ghost use Rattle.vch_model.specs.Scenarios.{IsLimited, line_count};
+ghost use Rattle.vch_model.specs.Scenarios.{IsLimited};
 ghost use Rattle.vch_machine.specs.State as machine;
 ghost use Rattle.vch_state.specs.Fresh.{AreFresh, all_resting};
 ghost use Rattle.vch_state.specs.Reached.{Stands};
@@ -9,7 +9,7 @@ use crate::{Core, Frames, MadeNumbers, Parts, Script, Spaces, Tally};
 use std::alloc::Global;
 use vch_base::NoMemory;
 use vch_entry::EntryTable;
-use vch_model::{History, PhaseList, Scenario};
+use vch_model::{History, Scenario};
 use vch_ports::Space;
 use vch_table::VoucherTable;
 use vch_user::UserManager;
@@ -37,18 +37,6 @@ fn fresh_frames(alloc: Global, count: usize) -> Result<Frames, NoMemory>
     Ok(made)
 }
 
-/// How many calls there are in all phases. The time is linear in the number of phases.
-pub fn count_calls(phases: &PhaseList) -> usize
-    requires { line_count phases.now ≤ 1048576 }
-    ensures { result ≡ line_count phases.now }
-{
-    let mut count = 0;
-    for i in 0..phases.len() {
-        count += phases.at(i).len();
-    }
-    count
-}
-
 impl Core {
     /// A core at the start of a scenario, of which it keeps a copy of its own. It takes room in the history for every call
     /// and every phase. The time is linear in the size of the scenario.
@@ -66,7 +54,7 @@ impl Core {
         let spaces = fresh_spaces(alloc, scenario.flags.len())?;
         let frames = fresh_frames(alloc, scenario.flags.len())?;
         let mut history = History::new(alloc);
-        history.reserve(count_calls(&scenario.phases) + scenario.phases.len())?;
+        history.reserve(script.calls() + scenario.phases.len())?;
         Ok(Core {
             parts: Parts {
                 scenario: script,

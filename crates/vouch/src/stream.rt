@@ -1,5 +1,5 @@
 //! The trusted edge: a source over a reader and a sink over a writer. They count their faults and tell nothing of content.
-ghost use Rattle.std.specs.Prelude.{◌≡◌, ◌≤◌, None, IfSome, length};
+ghost use Rattle.std.specs.Prelude.{◌≡◌, ◌≤◌, ◌+◌, ◌-◌, ◌^◌, min, None, IfSome, length};
 
 use std::io::{ErrorKind, Read, Write};
 use vch_base::{Failed, Sink, Source};
@@ -32,6 +32,13 @@ fn write_some<W: Write>(inner: &mut W, piece: &[u8]) -> Option<usize>
     None
 }
 
+/// One fault more, up to 18446744073709551615.
+fn count_fault(faults: &mut u64)
+    ensures { faults.new ≡ min (faults.old + 1) (2 ^ 64 - 1) }
+{
+    *faults = faults.saturating_add(1);
+}
+
 /// A source over any reader.
 #[derive(Drop)]
 pub struct Input<R: Read> {
@@ -53,9 +60,9 @@ impl<R: Read> Source for Input<R> {
 
     fn read(&mut self, buffer: &mut [u8]) -> Result<usize, Failed> {
         match read_some(&mut self.inner, buffer) {
-            Some(count) => Ok(count),
+            Some(read) => Ok(read),
             None => {
-                self.faults = self.faults.saturating_add(1);
+                count_fault(&mut self.faults);
                 Err(Failed)
             }
         }
@@ -85,13 +92,13 @@ impl<W: Write> Sink for Output<W> {
         match write_some(&mut self.inner, piece) {
             Some(0) => {
                 if !piece.is_empty() {
-                    self.faults = self.faults.saturating_add(1);
+                    count_fault(&mut self.faults);
                 }
                 Ok(0)
             }
-            Some(count) => Ok(count),
+            Some(written) => Ok(written),
             None => {
-                self.faults = self.faults.saturating_add(1);
+                count_fault(&mut self.faults);
                 Err(Failed)
             }
         }

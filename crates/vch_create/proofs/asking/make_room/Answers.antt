@@ -1,24 +1,20 @@
-use Rattle.std.proofs.Common.{arith, ◌≤◌, ◌∙◌, sym, ap, subst, length}
+use Rattle.std.proofs.Common.{arith, ◌∙◌, ap, length}
 use Rattle.vch_model.specs.declared.lists.Scenario.{Scenario}
-use Rattle.vch_model.specs.Scenarios.{line_count}
 use Rattle.vch_create.proofs.MakeCalls.{calls_few, phases_few, slots_few, room_fits}
 use Rattle.vch_create.proofs.asking.make_room.Goals as goal
 
-pub count_calls-requires : goal.count_calls-requires
-count_calls-requires c = subst (λ (s : Scenario). line_count s.phases ≤ 1048576) (sym c.scenario-scenario.ensures) (calls_few c.args.parts.now c.requires)
-
 pub overflow_add-owed : goal.overflow_add-owed
-overflow_add-owed c = let fits = (room_fits _ _ _ _ _ _ (c.count_calls.ensures ∙ ap (λ (s : Scenario). line_count s.phases) c.scenario-scenario.ensures) (c.len.ensures ∙ ap (λ (s : Scenario). length s.phases) c.scenario-scenario.ensures) c.handles-handles.ensures
+overflow_add-owed c = let fits = (room_fits _ _ _ _ _ _ c.calls.ensures (c.len.ensures ∙ ap (λ (s : Scenario). length s.phases) c.scenario.ensures) c.handles-handles.ensures
     (calls_few c.args.parts.now c.requires) (phases_few c.args.parts.now c.requires) (slots_few c.args.parts.now c.requires)).0 in omega (arith, fits)
 
 pub overflow_add-owed-2 : goal.overflow_add-owed-2
-overflow_add-owed-2 c = let fits = (room_fits _ _ _ _ _ _ (c.count_calls.ensures ∙ ap (λ (s : Scenario). line_count s.phases) c.scenario-scenario.ensures) (c.len.ensures ∙ ap (λ (s : Scenario). length s.phases) c.scenario-scenario.ensures) c.handles-handles.ensures
+overflow_add-owed-2 c = let fits = (room_fits _ _ _ _ _ _ c.calls.ensures (c.len.ensures ∙ ap (λ (s : Scenario). length s.phases) c.scenario.ensures) c.handles-handles.ensures
     (calls_few c.args.parts.now c.requires) (phases_few c.args.parts.now c.requires) (slots_few c.args.parts.now c.requires)).1 in omega (arith, fits)
 
 pub overflow_add-owed-3 : goal.overflow_add-owed-3
-overflow_add-owed-3 c = let fits = (room_fits _ _ _ _ _ _ (c.count_calls.ensures ∙ ap (λ (s : Scenario). line_count s.phases) c.scenario-scenario.ensures) (c.len.ensures ∙ ap (λ (s : Scenario). length s.phases) c.scenario-scenario.ensures) c.handles-handles.ensures
+overflow_add-owed-3 c = let fits = (room_fits _ _ _ _ _ _ c.calls.ensures (c.len.ensures ∙ ap (λ (s : Scenario). length s.phases) c.scenario.ensures) c.handles-handles.ensures
     (calls_few c.args.parts.now c.requires) (phases_few c.args.parts.now c.requires) (slots_few c.args.parts.now c.requires)).2 in omega (arith, fits)
 
 pub overflow_cast-handles : goal.overflow_cast-handles
-overflow_cast-handles c = let fits = (room_fits _ _ _ _ _ _ (c.count_calls.ensures ∙ ap (λ (s : Scenario). line_count s.phases) c.scenario-scenario.ensures) (c.len.ensures ∙ ap (λ (s : Scenario). length s.phases) c.scenario-scenario.ensures) c.handles-handles.ensures
+overflow_cast-handles c = let fits = (room_fits _ _ _ _ _ _ c.calls.ensures (c.len.ensures ∙ ap (λ (s : Scenario). length s.phases) c.scenario.ensures) c.handles-handles.ensures
     (calls_few c.args.parts.now c.requires) (phases_few c.args.parts.now c.requires) (slots_few c.args.parts.now c.requires)).3 in omega (arith, fits)
