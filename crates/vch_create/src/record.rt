@@ -3,7 +3,7 @@ ghost use Rattle.vch_create.specs.Works as works;
 ghost use Rattle.vch_create.specs.Works.{NamesAreThere, Reads, keys_named};
 
 use crate::change::{AtKeys, Change, Deed};
-use vch_base::{Code, Key};
+use vch_base::{ALL_KEYS, Code, Key};
 use vch_recipe::{Step, next_recipe};
 use vch_state::Parts;
 use vch_table::Indices;
@@ -15,9 +15,7 @@ pub struct Record {
     pub next: usize,
 }
 
-/// The number that stands for all keys, and the commands of a record that asks no manager. They are the kernel release's.
-const ALL_KEYS: u32 = 4294967295;
-
+/// The commands of a record that asks no manager. They are the kernel release's.
 const NOTHING: u32 = 0;
 
 const COPY: u32 = 1;

@@ -3,11 +3,9 @@ ghost use Rattle.vch_model.specs.UserOnly as user;
 ghost use Rattle.vch_model.specs.UserOnly.{AsksUserOnly, IsUserCall, IsUserOnly};
 ghost use Rattle.vch_plain.specs.Built.{AreUserLines};
 
+use vch_base::ALL_KEYS;
 use vch_model::{Call, LineList, Scenario};
 use vch_recipe::{Step, next_recipe};
-
-/// The number that stands for all keys.
-const ALL_KEYS: u32 = 4294967295;
 
 /// Whether a record asks another manager than that of user data.
 fn asks_other(key: u32, command: u32) -> bool

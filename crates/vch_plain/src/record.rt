@@ -10,10 +10,7 @@ ghost use Rattle.vch_plain.specs.Records.{worked_of, fresh_work, touches, touche
 
 use crate::names::voucher_of;
 use crate::state::Named;
-use vch_base::{Code, Key};
-
-/// The number that stands for all keys.
-const ALL_KEYS: u32 = 4294967295;
+use vch_base::{ALL_KEYS, Code, Key};
 
 /// What a record without a manager makes of a map: the handle in it, and the one that left it.
 #[derive(Clone, Copy, Debug)]

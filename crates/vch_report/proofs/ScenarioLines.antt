@@ -1,5 +1,5 @@
 -- The lines that a history answers.
-use Rattle.std.proofs.Common.{◌≡◌, ℕ, suc, ◌+◌, ◌-◌, ◌<◌, ◌≤◌, ◌==◌, Bool, true, false, cond, List, [], ◌∷◌, ◌++◌, refl, arith, length, map, Some}
+use Rattle.std.proofs.Common.{◌≡◌, ℕ, suc, ◌-◌, ◌<◌, ◌≤◌, ◌==◌, Bool, true, false, cond, List, [], ◌∷◌, refl, arith, length, Some}
 use Rattle.std.specs.List.{AllByRecursion, filter}
 use Rattle.std.proofs.lemmas.Grind.{common_steps}
 use Rattle.std.proofs.lemmas.Option.{slice_get_within}
@@ -8,20 +8,9 @@ use Rattle.vch_model.specs.declared.lists.Scenario.{Scenario}
 use Rattle.vch_model.specs.Lines.{lines_from, lines_of, line_at}
 use Rattle.vch_model.specs.Scenarios.{IsIn, IsLimited, line_count}
 use Rattle.vch_model.specs.UserOnly.{IsUserCall, IsUserOnly}
+use Rattle.vch_state.proofs.EachLine.{line_has}
 use Rattle.vch_state.proofs.OfTasks.{item_of}
 use Rattle.vch_legal.proofs.LineSums.{line_sum}
-
-all_append : {A : Type 0} (P : A → Type 0) (xs ys : List A) → AllByRecursion P xs → AllByRecursion P ys → AllByRecursion P (xs ++ ys)
-all_append P [] ys p q = q
-all_append P (x ∷ xs) ys p q = (p.0, all_append P xs ys p.1 q)
-
-all_filter : {A : Type 0} (P : A → Type 0) (test : A → Bool) (xs : List A) → AllByRecursion P xs → AllByRecursion P (filter test xs)
-all_filter P test [] p = tt
-all_filter P test (x ∷ xs) p = by (test x) (all_filter P test xs p.1)
-  where
-    by : (b : Bool) → AllByRecursion P (filter test xs) → AllByRecursion P (cond b (x ∷ filter test xs) (filter test xs))
-    by true r = (p.0, r)
-    by false r = r
 
 -- a list passes its own test
 all_pass : {A : Type 0} (test : A → Bool) (xs : List A) → AllByRecursion (λ x. test x ≡ true) (filter test xs)
@@ -39,19 +28,6 @@ fewer test (x ∷ xs) = by (test x) (fewer test xs)
     by : (b : Bool) → length (filter test xs) ≤ length xs → length (cond b (x ∷ filter test xs) (filter test xs)) ≤ suc (length xs)
     by true l = omega (arith, l)
     by false l = omega (arith, l)
-
-module _ (P : Line → Type 0) where
-  numbered : (phase : ℕ) (lines : List Line) → AllByRecursion P lines → AllByRecursion (λ (l : ℕ × Line). P l.1) (map (λ line. (phase, line)) lines)
-  numbered phase [] p = tt
-  numbered phase (l ∷ lines) p = (p.0, numbered phase lines p.1)
-
-  from : (phase : ℕ) (phases : List (List Line)) → AllByRecursion (λ lines. AllByRecursion P lines) phases → AllByRecursion (λ (l : ℕ × Line). P l.1) (lines_from phase phases)
-  from phase [] p = tt
-  from phase (lines ∷ phases) p = all_append (λ (l : ℕ × Line). P l.1) (map (λ line. (phase, line)) lines) (lines_from (phase + 1) phases) (numbered phase lines p.0) (from (phase + 1) phases p.1)
-
-  -- what holds of each line holds of the one that is found
-  pub line_has : (sc : Scenario) (t n : ℕ) (l : ℕ × Line) → AllByRecursion (λ lines. AllByRecursion P lines) sc.phases → line_at sc t n ≡ Some l → P l.1
-  line_has sc t n l p e = item_of (λ (l : ℕ × Line). P l.1) (lines_of sc t) (n - 1) l (all_filter (λ (l : ℕ × Line). P l.1) (λ (x : ℕ × Line). x.1.task == t) (lines_from 1 sc.phases) (from 1 sc.phases p)) e
 
 -- what is known of a line that a call of a task answers
 pub record Answered (sc : Scenario) (t n : ℕ) (l : ℕ × Line) : Type 0 where

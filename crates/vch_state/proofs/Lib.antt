@@ -1,4 +1,5 @@
 pub mod OfTasks
+pub mod EachLine
 pub mod Placing
 pub mod CallsFound
 pub mod Boths

@@ -1,5 +1,5 @@
 -- The end of a phase: what a core is owed, and what it stands for afterwards; and when it comes, by the tasks' next events.
-use Rattle.std.proofs.Common.{◌≡◌, ℕ, zero, suc, ◌+◌, ◌-◌, ◌<◌, ◌≤◌, ◌&&◌, nat_lt, true, false, List, [], ◌∷◌, ◌++◌, refl, arith, sym, ap, ◌∙◌, subst, length, reverse, Option, Some, None, IsTrue}
+use Rattle.std.proofs.Common.{◌≡◌, ℕ, ◌+◌, ◌-◌, ◌<◌, ◌≤◌, ◌&&◌, nat_lt, true, false, List, [], ◌∷◌, ◌++◌, refl, arith, sym, ap, ◌∙◌, subst, length, reverse, Option, Some, None, IsTrue}
 use Rattle.std.specs.Prelude.{is_some, if◌then◌else◌}
 use Rattle.std.specs.List.{AllByRecursion}
 use Rattle.std.proofs.lemmas.Grind.{common_steps}
@@ -18,6 +18,7 @@ use Rattle.vch_machine.specs.Schedules.{Move}
 use Rattle.vch_legal.proofs.AtRest.{Rests, task_rests}
 use Rattle.vch_legal.proofs.Keeps.{phase_keeps}
 use Rattle.vch_legal.proofs.Runs.{reached_stands}
+use Rattle.vch_legal.proofs.Turns.{all_numbers}
 use Rattle.vch_state.specs.declared.frame.Frame.{Frame}
 use Rattle.vch_state.specs.declared.parts.Parts.{Parts}
 use Rattle.vch_state.specs.Plain.{Plain, Part, part_of, begun_of, working_of, names_of}
@@ -64,14 +65,6 @@ number_within sc t e = by t (length sc.flags) e
 ready_none : (sc : Scenario) (m : Machine) (ts : List ℕ) → AllByRecursion (λ t. next_kind sc m t ≡ None) ts → ready sc m ts ≡ []
 ready_none sc m [] h = refl
 ready_none sc m (t ∷ ts) h = rw h.0 (ready_none sc m ts h.1)
-
-all_append : (P : ℕ → Type 0) (xs ys : List ℕ) → AllByRecursion P xs → AllByRecursion P ys → AllByRecursion P (xs ++ ys)
-all_append P [] ys a b = b
-all_append P (x ∷ xs) ys a b = (a.0, all_append P xs ys a.1 b)
-
-all_numbers : (P : ℕ → Type 0) (n : ℕ) → ((t : ℕ) → 0 < t → t ≤ n → P t) → AllByRecursion P (numbers n)
-all_numbers P zero h = tt
-all_numbers P (suc n) h = all_append P (numbers n) (suc n ∷ []) (all_numbers P n (λ t a b. h t a (omega (arith, b)))) (h (suc n) (omega arith) (omega arith), tt)
 
 not_below : (a b : ℕ) → b ≤ a → nat_lt a b ≡ false
 not_below a b h = grind (arith, common_steps)

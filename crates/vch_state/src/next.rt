@@ -9,7 +9,7 @@ ghost use Rattle.vch_state.specs.Nexts.{known_slot};
 ghost use Rattle.vch_state.specs.Reached.{IsNext, Reached};
 
 use crate::{Core, Frame, Script, Working};
-use vch_base::{Key, Kind};
+use vch_base::{ALL_KEYS, Key, Kind};
 use vch_model::Call;
 use vch_ports::Space;
 use vch_recipe::{Step, next_recipe};
@@ -19,9 +19,6 @@ const LAST_OWN_COMMAND: u32 = 5;
 
 /// The command that redeems the previous voucher's value, of one key or of all.
 const REDEEM: u32 = 10;
-
-/// The number that stands for all keys.
-const ALL_KEYS: u32 = 4294967295;
 
 /// Whether a whole record asks a manager. One that names a previous voucher which is not there asks none.
 fn asks_manager(space: &Space, key: u32, command: u32, previous: u32, content: &[u8]) -> bool

@@ -1,5 +1,6 @@
 //! The trusted edge: a source over a reader and a sink over a writer. They count their faults and tell nothing of content.
-ghost use Rattle.std.specs.Prelude.{◌≡◌, ◌≤◌, ◌+◌, ◌-◌, ◌^◌, min, None, IfSome, length};
+ghost use Rattle.std.specs.Prelude.{◌≡◌, ◌≤◌, None, IfSome, length};
+ghost use Rattle.vch_base.specs.Stream.{Rose};
 
 use std::io::{ErrorKind, Read, Write};
 use vch_base::{Failed, Sink, Source};
@@ -34,7 +35,8 @@ fn write_some<W: Write>(inner: &mut W, piece: &[u8]) -> Option<usize>
 
 /// One fault more, up to 18446744073709551615.
 fn count_fault(faults: &mut u64)
-    ensures { faults.new ≡ min (faults.old + 1) (2 ^ 64 - 1) }
+    ensures later { faults.old ≤ faults.new }
+    ensures rose { Rose faults.old faults.new }
 {
     *faults = faults.saturating_add(1);
 }
@@ -48,7 +50,9 @@ pub struct Input<R: Read> {
 
 impl<R: Read> Input<R> {
     /// A source with no faults so far. It takes no memory.
-    pub fn new(inner: R) -> Input<R> {
+    pub fn new(inner: R) -> Input<R>
+        ensures { result ≡ record { inner = inner; faults = 0 } }
+    {
         Input { inner, faults: 0 }
     }
 }
@@ -78,7 +82,9 @@ pub struct Output<W: Write> {
 
 impl<W: Write> Output<W> {
     /// A sink with no faults so far. It takes no memory.
-    pub fn new(inner: W) -> Output<W> {
+    pub fn new(inner: W) -> Output<W>
+        ensures { result ≡ record { inner = inner; faults = 0 } }
+    {
         Output { inner, faults: 0 }
     }
 }
