@@ -62,9 +62,6 @@ abbrev pub is_user : Value → Bool
 is_user (values.User bytes) = true
 is_user x = false
 
-abbrev pub AllUser : List (Option Live) → Type 0
-AllUser slots = (h : ℕ) (x : Value) → value_at slots h ≡ Some x → is_user x ≡ true
-
 -- The rules.
 
 abbrev pub no_flags : Flags

@@ -22,10 +22,6 @@ use Rattle.vch_legal.proofs.SeenHeld.{values_refl, values_eq}
 use Rattle.vch_legal.proofs.StoreLegal.{AllGood, equals}
 use Rattle.vch_legal.proofs.Conservation.{each_same, each_more, task_range, live_same}
 
--- what a charge makes of an amount on a value
-abbrev charge_on : Store → ℕ → Option (ℕ × Line) → Value → ℕ → ℕ
-charge_on s t line x amount = charged s t x amount line
-
 -- the sums after an accepted call
 abbrev pub ledgers_after : Scenario → List Entry → Store → ℕ → Option (ℕ × Line) → ℕ
 ledgers_after sc past s t line = each_task (λ u. if t == u then charged s u (values.Task u)
@@ -121,9 +117,6 @@ live_tasks sc (l ∷ live) k x good h =
   where
     later : (a b c : Bool) → b ≡ false → ((a && b) || c) ≡ true → c ≡ true
     later a b c e g = grind arith
-
-first_task : (a b : Bool) → (a && b) ≡ true → a ≡ true
-first_task a b e = grind arith
 
 abbrev pub charge_line : ℕ → ℕ → ℕ → ℕ → Option (ℕ × Line)
 charge_line phase u name n = Some (phase, record { task = u; call = calls.Charge name n })

@@ -1,5 +1,5 @@
 -- A record that a create is at: what the place behind it is, and what is behind it.
-use Rattle.std.proofs.Common.{◌≡◌, ℕ, ◌+◌, ◌-◌, ◌≤◌, ◌==◌, nat_lt, List, [], ◌∷◌, arith, sym, ap, ◌∙◌, length, take, drop, subst}
+use Rattle.std.proofs.Common.{◌≡◌, ℕ, ◌+◌, ◌-◌, ◌≤◌, ◌==◌, nat_lt, List, ◌∷◌, arith, sym, ap, ◌∙◌, length, take, drop, subst}
 use Rattle.std.proofs.lemmas.Grind.{common_steps}
 use Rattle.std.proofs.lemmas.List.{length-drop}
 use Rattle.vch_recipe.specs.Recipes.{One, End, HeaderCut, ContentCut, first_of, content_of, word_at}

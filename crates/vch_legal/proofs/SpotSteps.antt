@@ -49,15 +49,6 @@ pub let_go_old : (live fixed held expected : Bool) (c : Claim) (cs : List Claim)
 let_go_old live fixed held expected c [] h = grind arith
 let_go_old live fixed held expected c (d ∷ cs) h = grind arith
 
-pub let_go_none : (live fixed held expected : Bool) → (fixed || held) ≡ true
-    → spot_fits (one live fixed true expected []) ≡ true → spot_fits (one live fixed held expected []) ≡ true
-let_go_none live fixed held expected e h = grind arith
-
-pub let_go_claims : (p : Place) (live expected : Bool)
-    → spot_fits (one live false true expected []) ≡ true → spot_fits
-    (one live false false expected (fresh p expected ∷ [])) ≡ true
-let_go_claims p live expected h = grind arith
-
 pub ask_agreed : (live fixed held expected : Bool) (c : Claim) (cs : List Claim)
     → is_some c.answer ≡ false → c.raced ≡ false
     → spot_fits (one live fixed held expected (c ∷ cs)) ≡ true

@@ -53,9 +53,6 @@ ending_holds f a b p =
     ∙ (list_any-append (λ q. same_place q p) f.lets (a ++ b)
     ∙ ap (λ c. lets_hold f.lets p || c) (list_any-append (λ q. same_place q p) a b))
 
-three_or : (a b c : Bool) → ((a || b) || c) ≡ ((a || b) || c)
-three_or a b c = refl
-
 regroup : (l d o k : Bool) → ((l || (d || o)) || k) ≡ ((l || (d || o)) || k)
 regroup l d o k = refl
 

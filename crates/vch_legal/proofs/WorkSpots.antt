@@ -95,9 +95,6 @@ changed_holds k (Some y) w p n new = swap_holds k p.key y w.forming p.handle w.l
 three_eq : (a b c d e f : Bool) → a ≡ d → b ≡ e → c ≡ f → (a || (b || c)) ≡ (d || (e || f))
 three_eq a b c d e f x y z = cc
 
-first_of_three : (a b c : Bool) → ((true && a) || ((false && b) || (false && c))) ≡ a
-first_of_three a b c = grind arith
-
 of_three : (g : Key) (v : Handles) (h : ℕ) → (lets_hold (item keys.Importance v.importance) (at_key g h) ||
     (lets_hold (item keys.Bank v.bank) (at_key g h) || lets_hold (item keys.User v.user) (at_key g h)))
     ≡ is_handle (of_key g v) h

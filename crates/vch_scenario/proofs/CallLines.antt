@@ -1,5 +1,5 @@
 -- What stands behind the task in a line, both ways.
-use Rattle.std.proofs.Common.{◌≡◌, ℕ, ◌<◌, ◌≤◌, min, Bool, true, false, cond, ltb, List, [], ◌∷◌, length, Result, Ok, Err, refl, sym, ap, subst, ◌∙◌, arith, ◌⊎◌, inl, inr, codes}
+use Rattle.std.proofs.Common.{◌≡◌, ℕ, ◌<◌, ◌≤◌, min, Bool, true, false, cond, ltb, List, [], ◌∷◌, Result, Ok, Err, refl, sym, ap, subst, ◌∙◌, arith, ◌⊎◌, inl, inr, codes}
 use Rattle.std.proofs.lemmas.Grind.{common_steps}
 use Rattle.std.proofs.lemmas.Bool.{cases_lt, lt-ltb}
 use Rattle.vch_model.specs.declared.call.Call.{Call}
@@ -13,7 +13,7 @@ use Rattle.vch_scenario.specs.Reading.{◌>>=◌, formed}
 use Rattle.vch_text.specs.Words.{is_word, word_at, end_of}
 use Rattle.vch_text.specs.Numbers.{number_at, one_of, two_of}
 use Rattle.vch_text.specs.Digits.{bytes_of}
-use Rattle.vch_text.proofs.Told.{word_true, word_same, word_false}
+use Rattle.vch_text.proofs.Told.{word_true}
 use Rattle.vch_text.proofs.WordsBack.{spelled_follows}
 use Rattle.vch_text.proofs.NumbersBack.{NumberAt, OneRead, TwoRead}
 use Rattle.vch_model.specs.Grammar.{top, Text, Number, Begins, AreSpelled, call_pieces, IsSmall, IsHex, IsNumeral, behind_word}
@@ -341,9 +341,6 @@ call_again rest c h =
     rw (word_again rest h.0 h.1 h.2 (spelled_follows h.1 (behind_word c) h.4), v) (by_again c h.1 h.4)
 
 -- ---- what a verdict is
-
-one_verdict : (n : ℕ) (f : ℕ → Result Call Why) → n < top → (fit (min n top) >>= f) ≡ f n
-one_verdict n f lt = rw (fit_small n lt) refl
 
 pub verdict_small : (c : Call) → IsSmall c → verdict c ≡ Ok c
 verdict_small (calls.Create bytes) s = refl

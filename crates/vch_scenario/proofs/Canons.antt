@@ -1,17 +1,17 @@
 -- The canonical text is one of the scenario.
-use Rattle.std.proofs.Common.{◌≡◌, ◌≢◌, ℕ, zero, suc, ◌+◌, ◌/◌, ◌%◌, ◌^◌, ◌<◌, ◌≤◌, Bool, true, false, eqb, ltb, ◌&&◌, List, [], ◌∷◌, ◌++◌, length, get_or, refl, sym, ap, subst, ◌∙◌, arith, ◌⊎◌, inl, inr, append_assoc, codes, rules}
+use Rattle.std.proofs.Common.{◌≡◌, ℕ, ◌+◌, ◌^◌, ◌<◌, ◌≤◌, Bool, true, false, List, [], ◌∷◌, ◌++◌, length, refl, sym, ap, subst, ◌∙◌, arith, inr, append_assoc, codes}
 use Rattle.std.specs.List.{AllByRecursion}
 use Rattle.hex.specs.Hex.{IsBytes}
 use Rattle.vch_text.proofs.Decimals.{decimal_numeral}
-use Rattle.vch_text.proofs.Plain.{IsPlain, IsLow, above, plain_word, above_plain, decimal_plain, hex_plain, hex_spelled, low_append, split_line}
+use Rattle.vch_text.proofs.Plain.{IsPlain, IsLow, plain_word, above_plain, decimal_plain, hex_plain, hex_spelled, low_append, split_line}
 use Rattle.vch_model.specs.Text.{word_text}
 use Rattle.vch_model.specs.declared.call.Call.{Call}
 use Rattle.vch_model.specs.declared.call.Call.TheVariants as calls
 use Rattle.vch_model.specs.declared.call.Line.{Line}
 use Rattle.vch_model.specs.declared.lists.Scenario.{Scenario}
 use Rattle.vch_base.specs.declared.flags.Flags.{Flags}
-use Rattle.vch_model.specs.Grammar.{top, Piece, Text, Number, Digits, IsDecimal, value_after, IsNumeral, Spells, IsWord, AreSpelled, IsSmall, behind_word, flag_pieces, Item, pieces, IsLine, Title, Tasks, Task, Phase, Calls, End}
-use Rattle.vch_model.specs.TextLines.{split_of, with_line_before, with_byte}
+use Rattle.vch_model.specs.Grammar.{top, Piece, Text, Number, Digits, Spells, AreSpelled, IsSmall, behind_word, flag_pieces, Item, pieces, IsLine, Title, Tasks, Task, Phase, Calls, End}
+use Rattle.vch_model.specs.TextLines.{split_of, with_line_before}
 use Rattle.vch_model.specs.Words.{word_of}
 use Rattle.vch_model.specs.Scenarios.{task_items, line_items, phase_items, items_of, AreLines, IsIn, IsScenario}
 use Rattle.vch_model.specs.Canonical.{piece_text, spelled_text, joined_text, item_text, items_text, Canon, HasBytes, IsWritable}
@@ -78,9 +78,6 @@ items_spelled (i ∷ items) h = inr (item_spelled i h.0, items_spelled items h.1
 
 wide : (n : ℕ) → n < top → n < 10 ^ 64
 wide n lt = omega arith
-
-text_good : (t : List ℕ) → above t ≡ true → IsGood (Text t)
-text_good t e = above_plain t e
 
 abbrev AllGood : List Piece → Type 0
 AllGood ps = AllByRecursion (λ p. IsGood p) ps

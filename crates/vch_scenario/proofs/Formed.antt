@@ -1,5 +1,5 @@
 -- What the words of a line are, where a word that isn't as it should be is a fault of form.
-use Rattle.std.proofs.Common.{◌≡◌, ℕ, min, List, [], ◌∷◌, Option, Some, None, Result, Ok, Err, ap}
+use Rattle.std.proofs.Common.{◌≡◌, ℕ, min, List, [], ◌∷◌, Option, Some, None, Ok, ap}
 use Rattle.vch_text.specs.Words.{word_at, end_of}
 use Rattle.vch_text.specs.Numbers.{number_of, number_at, one_of, two_of}
 use Rattle.vch_text.specs.Digits.{bytes_of}

@@ -15,7 +15,7 @@ use Rattle.vch_model.specs.TextLines.{split_of}
 use Rattle.vch_model.specs.Grammar.{Item, Title, Tasks, Task, Phase, Calls, End}
 use Rattle.vch_scenario.specs.Faults.{MayStand, IsRanged, IsWithin, with_item, IsRead}
 use Rattle.vch_model.specs.Scenarios.{task_items, line_items, phase_items, items_of, AreLines, line_count, IsIn, IsLimited, IsScenario}
-use Rattle.vch_text.proofs.Decimals.{Ends, ends}
+use Rattle.vch_text.proofs.Decimals.{ends}
 use Rattle.vch_scenario.proofs.ItemRuns.{Runs, last_line, lead_lines}
 
 -- the calls of the phases
