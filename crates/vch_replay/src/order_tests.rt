@@ -1,6 +1,7 @@
 //! Runs in an order of single events.
-ghost use Rattle.std.specs.Prelude.{IfOk};
+ghost use Rattle.std.specs.Prelude.{◌≡◌, IfOk};
 ghost use Rattle.vch_model.specs.Canonical.{IsWritable};
+ghost use Rattle.vch_model.specs.UserOnly.{IsUserOnly};
 
 use std::alloc::Global;
 use std::test::Fail;
@@ -52,6 +53,30 @@ fn scenario_of(alloc: Global, bytes: &[u8]) -> Result<Scenario, Fail>
     }
 }
 
+/// A core after an order of events.
+fn driven(alloc: Global, scenario: &Scenario, order: &[u32]) -> Result<Core, Fail>
+    requires built { IsUserOnly scenario.now }
+    requires writable { IsWritable scenario.now }
+    ensures { IfOk result (λ core. core.scenario ≡ scenario.now) }
+{
+    let mut core = Core::start(alloc, scenario)?;
+    if !are_tasks(&core, order) {
+        return Err(Fail::new("not an order of tasks"));
+    }
+    drive(&mut core, order);
+    Ok(core)
+}
+
+/// The report after the rest of a run, in turn.
+fn finished(alloc: Global, core: &mut Core) -> Result<Vec<u8>, Fail>
+    requires built { IsUserOnly core.old.scenario }
+    requires writable { IsWritable core.old.scenario }
+{
+    finish(core);
+    let report = report_of(alloc, core)?;
+    Ok(vch_report::write(alloc, &report)?)
+}
+
 /// The report after an order of events, and the rest in turn.
 fn ordered(alloc: Global, scenario: &Scenario, order: &[u32]) -> Result<Vec<u8>, Fail>
     requires { IsWritable scenario.now }
@@ -59,14 +84,8 @@ fn ordered(alloc: Global, scenario: &Scenario, order: &[u32]) -> Result<Vec<u8>,
     if !is_user_only(scenario) {
         return Err(Fail::new("not only creates and drops"));
     }
-    let mut core = Core::start(alloc, scenario)?;
-    if !are_tasks(&core, order) {
-        return Err(Fail::new("not an order of tasks"));
-    }
-    drive(&mut core, order);
-    finish(&mut core);
-    let report = report_of(alloc, &core)?;
-    Ok(vch_report::write(alloc, &report)?)
+    let mut core = driven(alloc, scenario, order)?;
+    finished(alloc, &mut core)
 }
 
 #[test]

@@ -121,11 +121,36 @@ const CASES: &[Case] = &[
         status: 2,
         output: "fault not built\n",
     },
+    // The first 20 bytes, all bytes but the last, and bytes that are no text.
     Case {
         words: &["play"],
-        input: b"vouch 1\ntasks 1\ntas",
+        input: b"vouch 1\ntasks 1\ntask",
         status: 2,
         output: "fault line 3 why ending\n",
+    },
+    Case {
+        words: &["play"],
+        input: b"vouch 1\ntasks 1\ntask 1\nphase\n1 create 07000000d300000000000000020000006162\n1 drop 1\nend",
+        status: 2,
+        output: "fault line 7 why ending\n",
+    },
+    Case {
+        words: &["play"],
+        input: b"vouch 1\n\x00\n",
+        status: 2,
+        output: "fault line 2 why form\n",
+    },
+    Case {
+        words: &["play"],
+        input: b"\xff\xfe\n",
+        status: 2,
+        output: "fault line 1 why form\n",
+    },
+    Case {
+        words: &["check"],
+        input: b"# \x00\x80\xff\nvouch 1\ntasks 1\ntask 1\nphase\n1 create 07000000d300000000000000020000006162\n1 drop 1\nend\n",
+        status: 0,
+        output: CANONICAL,
     },
     Case {
         words: &["check"],
