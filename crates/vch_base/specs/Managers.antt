@@ -1,10 +1,14 @@
 -- What a manager keeps, and what it answers.
-use Rattle.std.specs.Prelude.{◌≡◌, ℕ, ◌+◌, ◌-◌, ◌<◌, ◌≤◌, ◌==◌, nat_lt, ◌&&◌, not, if◌then◌else◌, Bool, true, false, List, [], ◌∷◌, ◌++◌, length, slice_set, slice_index, slice_index_or, count_by, Option, Some, None, Result, Ok, Err, ℤ, pos}
+use Rattle.std.specs.Prelude.{◌≡◌, ℕ, ◌+◌, ◌-◌, ◌<◌, ◌≤◌, ◌==◌, nat_lt, ◌&&◌, not, if◌then◌else◌, Bool, true, false, List, [], ◌∷◌, ◌++◌, length, slice_set, slice_index, slice_index_or, count_by, Option, Some, None, Result, Ok, Err, ℤ}
 use Rattle.vch_base.specs.declared.key.Key.{Key}
 use Rattle.vch_base.specs.declared.key.Key.TheVariants as keys
 use Rattle.vch_base.specs.declared.value.Value.{Value}
 use Rattle.vch_base.specs.declared.value.Value.TheVariants as values
 use Rattle.vch_base.specs.Values.{is_default}
+use Rattle.vch_base.specs.declared.codes.TheConstants.{KERN_INVALID_ARGUMENT}
+use Rattle.vch_base.specs.declared.commands.TheConstants as commands
+use Rattle.vch_base.specs.declared.limits.TheConstants.{CHAIN_TASKS}
+use Rattle.vch_base.specs.Tasks.{at_task, set_task}
 use Rattle.vch_base.specs.Contents.{content_of}
 use Rattle.vch_base.specs.declared.flags.Flags.{Flags}
 use Rattle.vch_base.specs.declared.places.Live.{Live}
@@ -48,6 +52,14 @@ value_at slots h = value_of (live_at slots h)
 abbrev pub made_at : List (Option Live) → ℕ → ℕ
 made_at slots h = made_of (live_at slots h)
 
+-- what is due on a value: the amount of an account, the external count of a task list, 0 of all others
+abbrev pub due_of : Option Live → ℕ
+due_of None = 0
+due_of (Some l) = l.due
+
+abbrev pub due_at : List (Option Live) → ℕ → ℕ
+due_at slots h = due_of (live_at slots h)
+
 abbrev pub previous_of : List (Option Live) → Option ℕ → Option Value
 previous_of slots None = None
 previous_of slots (Some h) = value_at slots h
@@ -76,7 +88,7 @@ Knows rules t = knows rules.tasks t
 
 abbrev pub flags_in : Option (List Flags) → ℕ → Flags
 flags_in None t = no_flags
-flags_in (Some flags) t = slice_index_or flags (t - 1) no_flags
+flags_in (Some flags) t = at_task flags t no_flags
 
 -- what SEND_PREPROCESS makes of a value where the task s sends it
 abbrev pub sent : ℕ → Value → Value
@@ -90,7 +102,7 @@ sent s (values.Account holder merchant) = values.Task holder
 abbrev pub received : Bool → ℕ → Value → Value
 received receiver r (values.User bytes) = values.User bytes
 received receiver r (values.Chain list) =
-    if receiver && (nat_lt (length list) 8 && not (slice_index list (length list - 1) == r)) then values.Chain (list ++ r ∷ []) else values.Chain list
+    if receiver && (nat_lt (length list) CHAIN_TASKS && not (slice_index list (length list - 1) == r)) then values.Chain (list ++ r ∷ []) else values.Chain list
 received receiver r values.Default = values.Default
 received receiver r (values.Task holder) = if holder == r then values.Task holder else values.Account holder r
 received receiver r (values.Account holder merchant) = values.Account holder merchant
@@ -101,29 +113,38 @@ mapped f (Some x) = Some (f x)
 
 -- a command without content
 abbrev pub bare : List ℕ → Option Value → Result (Option Value) ℤ
-bare content x = if length content == 0 then Ok x else Err (pos 4)
+bare content x = if length content == 0 then Ok x else Err KERN_INVALID_ARGUMENT
 
+-- a manager of user data stores the content
+abbrev pub stored : ℕ → List ℕ → Result (Option Value) ℤ
+stored command content = if command == commands.USER_DATA_STORE then Ok (Some (values.User content)) else Err KERN_INVALID_ARGUMENT
+
+-- the manager's own commands, and those that the core gives it
 abbrev pub own_answer : Key → Option (List Flags) → ℕ → ℕ → Option Value → List ℕ → Result (Option Value) ℤ
-own_answer keys.User tasks by command previous content = if command == 211 then Ok (Some (values.User content)) else Err (pos 4)
+own_answer keys.User tasks by command previous content = stored command content
 own_answer keys.Importance tasks by command previous content =
-    if command == 200 then bare content (Some (values.Chain (by ∷ [])))
-    else if command == 4 then bare content (mapped (received (flags_in tasks by).receiver by) previous)
-    else Err (pos 4)
+    if command == commands.IMPORTANCE_SELF then bare content (Some (values.Chain (by ∷ [])))
+    else if command == commands.AUTO_REDEEM then bare content (mapped (received (flags_in tasks by).receiver by) previous)
+    else Err KERN_INVALID_ARGUMENT
 own_answer keys.Bank tasks by command previous content =
-    if command == 610 then bare content (Some values.Default)
-    else if command == 4 then bare content (mapped (received (flags_in tasks by).receiver by) previous)
-    else if command == 5 then bare content (mapped (sent by) previous)
-    else Err (pos 4)
+    if command == commands.BANK_CREATE then bare content (Some values.Default)
+    else if command == commands.AUTO_REDEEM then bare content (mapped (received (flags_in tasks by).receiver by) previous)
+    else if command == commands.SEND_PREPROCESS then bare content (mapped (sent by) previous)
+    else Err KERN_INVALID_ARGUMENT
 
 -- a value, none, or code 4
 abbrev pub answer : Rules → ℕ → ℕ → Option Value → List ℕ → Result (Option Value) ℤ
-answer rules by command previous content = if command == 10 then bare content previous else own_answer rules.row rules.tasks by command previous content
+answer rules by command previous content = if command == commands.REDEEM then bare content previous else own_answer rules.row rules.tasks by command previous content
 
 -- The calls.
 
 abbrev pub more_made : Option Live → Option Live
 more_made None = None
 more_made (Some l) = Some (record l { made = l.made + 1 })
+
+abbrev pub with_due : ℕ → Option Live → Option Live
+with_due n None = None
+with_due n (Some l) = Some (record l { due = n })
 
 abbrev pub new_live : Value → Live
 new_live x = record { value = x; made = 1; due = 0 }
@@ -162,7 +183,7 @@ Gets old (Ok (Some x)) result new = Handed old.slots old.free x result new.slots
 abbrev pub credited : Option Live → List ℕ → List ℕ
 credited None ledgers = ledgers
 credited (Some l) ledgers =
-    elim l.value [ values.Account holder merchant ↦ slice_set ledgers (holder - 1) (slice_index ledgers (holder - 1) + l.due) | _ ↦ ledgers ]
+    elim l.value [ values.Account holder merchant ↦ set_task ledgers holder (at_task ledgers holder 0 + l.due) | _ ↦ ledgers ]
 
 abbrev pub after_release : Kept → ℕ → Bool → Kept
 after_release old h true = record old { slots = slice_set old.slots h None; free = h ∷ old.free; ledgers = credited (live_at old.slots h) old.ledgers; asked = old.asked + 1 }
