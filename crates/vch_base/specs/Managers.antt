@@ -169,7 +169,7 @@ Hands slots free x h true slots2 free2 = IsAbsent slots x × (h ≡ next_handle 
 
 abbrev pub Handed : List (Option Live) → List ℕ → Value → Result Got GetFault → List (Option Live) → List ℕ → Type 0
 Handed slots free x (Ok (got.Value h fresh persist)) slots2 free2 = (persist ≡ is_default x) × Hands slots free x h fresh slots2 free2
-Handed slots free x (Err fault.NoMemory) slots2 free2 = (slots2 ≡ slots) × (free2 ≡ free)
+Handed slots free x (Err (fault.NoMemory cause)) slots2 free2 = (slots2 ≡ slots) × (free2 ≡ free)
 Handed slots free x result slots2 free2 = ⊥
 
 -- an answer, and what a call of it leaves; want of memory may stand in for a value alone

@@ -2,6 +2,7 @@
 use Rattle.std.proofs.Common.{◌≡◌, ℕ, true, false, List, refl, arith, sym, ap, ◌∙◌, subst, Some, None, IsTrue}
 use Rattle.std.specs.Prelude.{Result, Ok, Err, pos}
 use Rattle.vch_base.specs.declared.fault.Code.{Code}
+use Rattle.vch_base.specs.declared.fault.NoMemory.{NoMemory}
 use Rattle.vch_base.specs.declared.key.Key.TheVariants as keys
 use Rattle.vch_base.specs.declared.kind.Kind.TheVariants as kinds
 use Rattle.vch_base.specs.declared.manager.GetFault.{GetFault}
@@ -112,8 +113,8 @@ module _ (p : Parts) (t : ℕ) (task : is_task p.scenario t ≡ true) (next : Is
   pub refused_roomier : (q : Parts) (code : Code) → Answers t (Err (fault.Refused code)) p q → IsRoomier p q
   refused_roomier q code a = asked_roomier p q t _ a (reached_state p _ reached (λ m st. let b = a.gives m st in (refused_is p.user q.user b.0 code b.2).1))
 
-  pub memory_roomier : (q : Parts) → Answers t (Err fault.NoMemory) p q → IsRoomier p q
-  memory_roomier q a = asked_roomier p q t _ a (reached_state p _ reached (λ m st. let b = a.gives m st in memory_is p.user q.user b.0 b.2))
+  pub memory_roomier : (q : Parts) (cause : NoMemory) → Answers t (Err (fault.NoMemory cause)) p q → IsRoomier p q
+  memory_roomier q cause a = asked_roomier p q t _ a (reached_state p _ reached (λ m st. let b = a.gives m st in memory_is p.user q.user b.0 cause b.2))
 
   pub nothing_roomier : (q : Parts) → Answers t (Ok made.Nothing) p q → IsRoomier p q
   nothing_roomier q a = asked_roomier p q t _ a (reached_state p _ reached (λ m st. let b = a.gives m st in (nothing_is p.user q.user b.0 b.2).1))

@@ -2,6 +2,7 @@
 use Rattle.std.proofs.Common.{◌≡◌, ℕ, Bool, true, false, List, refl, sym, ap, ◌∙◌, Option, Some, None}
 use Rattle.std.specs.Prelude.{Result, Ok, Err, ℤ, pos}
 use Rattle.vch_base.specs.declared.fault.Code.{Code}
+use Rattle.vch_base.specs.declared.fault.NoMemory.{NoMemory}
 use Rattle.vch_base.specs.declared.key.Key.TheVariants as keys
 use Rattle.vch_base.specs.declared.kind.Kind.TheVariants as kinds
 use Rattle.vch_base.specs.declared.value.Value.{Value}
@@ -42,8 +43,8 @@ refused_is old new (Err code) c m = (ap (λ n. Err n) (sym m.0), m.1)
 refused_is old new (Ok None) c m = absurd m
 refused_is old new (Ok (Some x)) c m = absurd m.0
 
-pub memory_is : (old new : Kept) (reply : Result (Option Value) ℤ) → value_calls.Makes old reply (Err fault.NoMemory) new → new ≡ old
-memory_is old new reply m = m
+pub memory_is : (old new : Kept) (reply : Result (Option Value) ℤ) (cause : NoMemory) → value_calls.Makes old reply (Err (fault.NoMemory cause)) new → new ≡ old
+memory_is old new reply cause m = m
 
 -- a value was handed out
 pub record IsValue (old new : Kept) (reply : Result (Option Value) ℤ) (r : Receipt) (fresh : Bool) (x : Value) : Type 0 where

@@ -8,8 +8,8 @@ ghost use Rattle.vch_state.specs.Reached.{Reached, IsNext, MayFollow, value_kind
 ghost use Rattle.vch_create.specs.Makes.{HasRoom, IsLoss, IsMadeEntry};
 
 use crate::asking::{ask, prepare};
-use crate::refuse::refuse;
-use vch_base::{Code, GetFault, Key};
+use crate::refuse::{out_of_memory, refuse};
+use vch_base::{GetFault, Key};
 use vch_model::Entry;
 use vch_state::{KeyReceipt, Parts, next_place, put_index};
 use vch_value::{Made, Receipt};
@@ -94,7 +94,7 @@ fn go_on(parts: &mut Parts, task: u32, entry: Entry)
             },
         ) => give_receipt(parts, task, receipt),
         Err(GetFault::Refused { code }) => refuse(parts, task, code),
-        Err(GetFault::NoMemory) => refuse(parts, task, Code { number: 6 }),
+        Err(GetFault::NoMemory { cause }) => out_of_memory(parts, task, cause),
     }
 }
 
@@ -113,6 +113,6 @@ pub fn make(parts: &mut Parts, task: u32)
 {
     match prepare(parts, task) {
         Ok(entry) => go_on(parts, task, entry),
-        Err(_) => refuse(parts, task, Code { number: 6 }),
+        Err(cause) => out_of_memory(parts, task, cause),
     }
 }

@@ -7,8 +7,8 @@ ghost use Rattle.vch_state.specs.Plain.{frame_of, names_of, with_names_of};
 ghost use Rattle.vch_state.specs.Reached.{Reached, MayFollow, IsNext, value_kind};
 ghost use Rattle.vch_create.specs.Gives.{Gives, map_in, placed};
 
-use crate::refuse::{created, let_go_of, refuse};
-use vch_base::{Code, NoMemory};
+use crate::refuse::{created, let_go_of, out_of_memory};
+use vch_base::NoMemory;
 use vch_model::Reply;
 use vch_state::{Frame, Parts, Spaces, closed};
 use vch_table::{Indices, VoucherTable};
@@ -98,9 +98,9 @@ pub fn place(parts: &mut Parts, task: u32)
     let Some(map) = map_of(&parts.frames.at(task).frame) else {
         return;
     };
-    let Ok(given) = give_name(&mut parts.vouchers, &mut parts.spaces, task, &map) else {
-        refuse(parts, task, Code::of(6));
-        return;
+    let given = match give_name(&mut parts.vouchers, &mut parts.spaces, task, &map) {
+        Ok(given) => given,
+        Err(cause) => return out_of_memory(parts, task, cause),
     };
     parts.vouchers.know();
     let Some(frame) = parts.frames.take(task) else {

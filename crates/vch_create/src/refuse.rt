@@ -1,4 +1,5 @@
 ghost use Rattle.std.specs.Prelude.{◌≡◌, ◌≤◌, ◌++◌, None, IsTrue, length};
+ghost use Rattle.vch_base.specs.declared.codes.TheConstants.{KERN_RESOURCE_SHORTAGE};
 ghost use Rattle.vch_model.specs.Lines.{is_task};
 ghost use Rattle.vch_state.specs.Plain.{frame_of};
 ghost use Rattle.vch_state.specs.Reached.{Reached, value_kind};
@@ -6,7 +7,8 @@ ghost use Rattle.vch_state.specs.Shape.{index_of};
 ghost use Rattle.vch_create.specs.Formed.{is_forming, item, items};
 ghost use Rattle.vch_create.specs.Refusals.{IsRefusal};
 
-use vch_base::{Code, Key};
+use vch_base::codes::KERN_RESOURCE_SHORTAGE;
+use vch_base::{Code, Key, NoMemory};
 use vch_model::{Entry, Reply, Word};
 use vch_state::{KeyIndex, Lets, Parts, closed};
 use vch_table::Indices;
@@ -43,9 +45,8 @@ pub fn created(task: u32, number: u32, reply: Reply) -> Entry
     }
 }
 
-/// A create that a frame is forming is refused: what it formed is to be let go of, and the history says the code. It
-/// takes constant time and no memory, since every call that is not answered has room for its entry.
-pub fn refuse(parts: &mut Parts, task: u32, code: Code)
+/// A create that a frame is forming ends with a code: what it formed is to be let go of, and the history says the code.
+fn end_with(parts: &mut Parts, task: u32, code: Code)
     requires reached { Reached parts.old }
     requires task { IsTrue (is_task parts.old.scenario task) }
     requires idle { value_kind (frame_of parts.old.frames task) ≡ None }
@@ -65,4 +66,33 @@ pub fn refuse(parts: &mut Parts, task: u32, code: Code)
     parts
         .history
         .push(created(task, number, Reply::Refused { code }));
+}
+
+/// A create that a frame is forming is refused. It takes constant time and no memory, since every call that is not answered
+/// has room for its entry.
+pub fn refuse(parts: &mut Parts, task: u32, code: Code)
+    requires reached { Reached parts.old }
+    requires task { IsTrue (is_task parts.old.scenario task) }
+    requires idle { value_kind (frame_of parts.old.frames task) ≡ None }
+    requires forms { IsTrue (is_forming (frame_of parts.old.frames task)) }
+    ensures { IsRefusal task code.number parts.old parts.new }
+{
+    end_with(parts, task, code)
+}
+
+/// A create that a frame is forming ends for want of memory, as [`refuse`] ends it for another reason.
+pub fn out_of_memory(parts: &mut Parts, task: u32, _cause: NoMemory)
+    requires reached { Reached parts.old }
+    requires task { IsTrue (is_task parts.old.scenario task) }
+    requires idle { value_kind (frame_of parts.old.frames task) ≡ None }
+    requires forms { IsTrue (is_forming (frame_of parts.old.frames task)) }
+    ensures { IsRefusal task KERN_RESOURCE_SHORTAGE parts.old parts.new }
+{
+    end_with(
+        parts,
+        task,
+        Code {
+            number: KERN_RESOURCE_SHORTAGE,
+        },
+    )
 }

@@ -8,7 +8,7 @@ pub fn after(n: u64) -> Result<u64, NoMemory>
 {
     match n.checked_add(1) {
         Some(next) => Ok(next),
-        None => Err(NoMemory),
+        None => Err(NoMemory::beyond(n, 1, u64::MAX)),
     }
 }
 
@@ -19,6 +19,6 @@ pub fn narrow(n: u64) -> Result<u32, NoMemory>
 {
     match u32::try_from(n) {
         Ok(number) => Ok(number),
-        Err(_) => Err(NoMemory),
+        Err(_) => Err(NoMemory::beyond(n, 0, u32::MAX as u64)),
     }
 }

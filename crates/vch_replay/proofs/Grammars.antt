@@ -4,7 +4,7 @@ use Rattle.vch_recipe.specs.declared.recipe.Recipe.{Recipe}
 use Rattle.vch_recipe.specs.declared.fault.RecipeFault.{RecipeFault}
 use Rattle.vch_recipe.specs.declared.fault.RecipeFault.TheVariants as recipe_faults
 use Rattle.vch_recipe.specs.Recipes.{Recipes}
-use Rattle.vch_recipe.specs.Cuts.{IsOutcome, IsUnlessMemory}
+use Rattle.vch_recipe.specs.Cuts.{IsOutcome, IsOutOfMemory, IsUnlessMemory}
 use Rattle.vch_recipe.proofs.Outcomes.{one_outcome}
 use Rattle.vch_model.specs.declared.lists.Scenario.{Scenario}
 use Rattle.vch_model.specs.Scenarios.{IsScenario}
@@ -21,18 +21,18 @@ play_apart : (input line : List ℕ) (sc : Scenario) → IsScenario input sc →
 play_apart input line sc is can (inl f) = scenario_apart input line sc is f
 play_apart input line sc is can (inr n) = n.2 (subst IsUserOnly (one_scenario input sc n.0 is n.1) can)
 
-differs : (input : List ℕ) (records : List Recipe) (fault : RecipeFault) → (fault ≡ recipe_faults.NoMemory → ⊥) → Recipes input records → IsOutcome input (Err fault) → ⊥
-differs input records fault other is f = by (one_outcome input (Ok records) (Err fault) is f (λ e. other (cc)))
+differs : (input : List ℕ) (records : List Recipe) (fault : RecipeFault) → (IsOutOfMemory (Err fault) → ⊥) → Recipes input records → IsOutcome input (Err fault) → ⊥
+differs input records fault other is f = by (one_outcome input (Ok records) (Err fault) is f other)
   where
     by : IsUnlessMemory (Ok records) (Err fault) → ⊥
     by (inl e) = cc
-    by (inr e) = cc
+    by (inr e) = e
 
 array_apart : (input : List ℕ) (records : List Recipe) (fault : RecipeFault) → IsArray input records → IsArrayFault input fault → ⊥
 array_apart input records (recipe_faults.TooLarge size) is f = let short : length input ≤ 5120 = is.0 in let long : 5120 < length input = f.0 in omega arith
-array_apart input records (recipe_faults.HeaderCut at left) is f = differs input records (recipe_faults.HeaderCut at left) (λ e. cc) is.1 f.1
-array_apart input records (recipe_faults.ContentCut at wanted left) is f = differs input records (recipe_faults.ContentCut at wanted left) (λ e. cc) is.1 f.1
-array_apart input records recipe_faults.NoMemory is f = f
+array_apart input records (recipe_faults.HeaderCut at left) is f = differs input records (recipe_faults.HeaderCut at left) (λ e. e) is.1 f.1
+array_apart input records (recipe_faults.ContentCut at wanted left) is f = differs input records (recipe_faults.ContentCut at wanted left) (λ e. e) is.1 f.1
+array_apart input records (recipe_faults.NoMemory cause) is f = f
 
 pub apart : (command : Command) (line input : List ℕ) → IsIn command input → Refuses command input line → ⊥
 apart commands.Check line input is refused = scenario_apart input line is.0 is.1 refused

@@ -1,5 +1,5 @@
 -- The lines that the program writes of its own: one a record, and one where input is refused.
-use Rattle.std.specs.Prelude.{ℕ, List, [], ◌++◌, codes}
+use Rattle.std.specs.Prelude.{ℕ, List, ◌++◌, codes, Option, Some, None}
 use Rattle.std.specs.List.{flat_map}
 use Rattle.vch_recipe.specs.declared.recipe.Recipe.{Recipe}
 use Rattle.vch_recipe.specs.declared.fault.RecipeFault.{RecipeFault}
@@ -29,10 +29,18 @@ scenario_fault line why = codes "fault line" ++ spaced line ++ codes " why " ++ 
 abbrev pub not_built : List ℕ
 not_built = codes "fault not built" ++ newline
 
+abbrev pub size_fault : ℕ → List ℕ
+size_fault size = codes "fault size" ++ spaced size ++ newline
+
+abbrev pub header_fault : ℕ → ℕ → List ℕ
+header_fault at left = codes "fault header at" ++ spaced at ++ codes " left" ++ spaced left ++ newline
+
+abbrev pub content_fault : ℕ → ℕ → ℕ → List ℕ
+content_fault at wanted left = codes "fault content at" ++ spaced at ++ codes " wanted" ++ spaced wanted ++ codes " left" ++ spaced left ++ newline
+
 -- the first fault of a recipe array; want of memory has no line
-abbrev pub recipe_fault : RecipeFault → List ℕ
-recipe_fault (recipe_faults.TooLarge size) = codes "fault size" ++ spaced size ++ newline
-recipe_fault (recipe_faults.HeaderCut at left) = codes "fault header at" ++ spaced at ++ codes " left" ++ spaced left ++ newline
-recipe_fault (recipe_faults.ContentCut at wanted left) =
-    codes "fault content at" ++ spaced at ++ codes " wanted" ++ spaced wanted ++ codes " left" ++ spaced left ++ newline
-recipe_fault recipe_faults.NoMemory = []
+abbrev pub recipe_fault : RecipeFault → Option (List ℕ)
+recipe_fault (recipe_faults.TooLarge size) = Some (size_fault size)
+recipe_fault (recipe_faults.HeaderCut at left) = Some (header_fault at left)
+recipe_fault (recipe_faults.ContentCut at wanted left) = Some (content_fault at wanted left)
+recipe_fault (recipe_faults.NoMemory cause) = None

@@ -87,10 +87,10 @@ abbrev pub IsArrayFault : List ℕ → RecipeFault → Type 0
 IsArrayFault input (recipe_faults.TooLarge size) = (5120 < length input) × (size ≡ length input)
 IsArrayFault input (recipe_faults.HeaderCut at left) = (length input ≤ 5120) × IsHeaderCut input at left
 IsArrayFault input (recipe_faults.ContentCut at wanted left) = (length input ≤ 5120) × IsContentCut input at wanted left
-IsArrayFault input recipe_faults.NoMemory = ⊥
+IsArrayFault input (recipe_faults.NoMemory cause) = ⊥
 
 abbrev pub IsRecipeFault : List ℕ → List ℕ → Type 0
-IsRecipeFault input line = (fault : RecipeFault) × IsArrayFault input fault × (line ≡ recipe_fault fault)
+IsRecipeFault input line = (fault : RecipeFault) × IsArrayFault input fault × (recipe_fault fault ≡ Some line)
 
 -- the line that a command writes where the input is not in its grammar
 abbrev pub Refuses : Command → List ℕ → List ℕ → Type 0

@@ -22,6 +22,6 @@ pub fn answer(alloc: Global, input: &[u8]) -> Result<Outcome, NoMemory>
             let line = scenario_line(alloc, line, why)?;
             Ok(Outcome::Refused { line })
         }
-        Err(ScenarioFault::NoMemory) => Err(NoMemory),
+        Err(ScenarioFault::NoMemory { cause }) => Err(cause),
     }
 }

@@ -1,6 +1,7 @@
 ghost use Rattle.std.specs.Prelude.{◌≡◌, ◌<◌, ◌≤◌, ◌+◌, ◌-◌, ◌++◌, List, ℕ, length, take, IfOk, OnOk, OnErr, IfSome, IsErrOf, Option, vec_len};
 ghost use Rattle.std.specs.Io.KnownBytes.{Consumes, IsAtEnd};
 ghost use Rattle.vch_base.specs.Stream.{Rose};
+ghost use Rattle.vch_replay.specs.declared.input.InputFault.TheVariants as faults;
 ghost use Rattle.vch_replay.specs.Input.{limit, GaveTooMuch, GaveAtMost};
 
 use std::alloc::Global;
@@ -10,11 +11,19 @@ use vch_base::{NoMemory, Source};
 pub const LIMIT: usize = 4194304;
 
 /// Why the input was not read to its end.
-#[derive(Clone, Copy, Debug, PartialEq, Eq)]
+#[derive(Debug, Drop, PartialEq, Eq)]
 pub enum InputFault {
     Failed,
     TooLong,
-    NoMemory,
+    NoMemory { cause: NoMemory },
+}
+
+impl From<NoMemory> for InputFault {
+    ghost from_gives = { λ cause e. e ≡ faults.NoMemory cause };
+
+    fn from(cause: NoMemory) -> Self {
+        InputFault::NoMemory { cause }
+    }
 }
 
 /// Reads to the end of the source, or until one byte more than the limit was given. Each read asks for at least one byte.
@@ -40,8 +49,8 @@ pub fn read_all<S: Source>(alloc: Global, source: &mut S) -> Result<Vec<u8>, Inp
         if count > LIMIT - bytes.len() {
             return Err(InputFault::TooLong);
         }
-        if bytes.extend_from_slice(&buffer[..count]).is_err() {
-            return Err(InputFault::NoMemory);
-        }
+        bytes
+            .extend_from_slice(&buffer[..count])
+            .map_err(NoMemory::from)?;
     }
 }

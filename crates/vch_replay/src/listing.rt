@@ -1,7 +1,6 @@
 //! The text of a recipe array's records, and the lines of its faults.
-ghost use Rattle.std.specs.Prelude.{◌≡◌, ◌≢◌, ◌+◌, ◌++◌, length, take, OnOk, IfOk};
+ghost use Rattle.std.specs.Prelude.{◌≡◌, ◌+◌, ◌++◌, length, take, OnOk, IfOk, Some};
 ghost use Rattle.std.specs.List.{flat_map};
-ghost use Rattle.vch_recipe.specs.declared.fault.RecipeFault.{RecipeFault};
 ghost use Rattle.vch_replay.specs.Lines as lines;
 
 use std::alloc::Global;
@@ -42,33 +41,53 @@ pub fn listing(alloc: Global, records: &Recipes) -> Result<Vec<u8>, NoMemory>
     Ok(out)
 }
 
-/// The line of the first fault of a recipe array.
-pub fn recipe_fault_line(alloc: Global, fault: &RecipeFault) -> Result<Vec<u8>, NoMemory>
-    requires { fault.now ≢ RecipeFault.NoMemory }
-    ensures { IfOk result (λ line. line.items ≡ lines.recipe_fault fault.now) }
+/// The line of an array that is too large.
+fn size_line(alloc: Global, size: usize) -> Result<Vec<u8>, NoMemory>
+    ensures { IfOk result (λ line. line.items ≡ lines.size_fault size) }
 {
     let mut out = Vec::new(alloc);
-    match fault {
-        RecipeFault::TooLarge { size } => {
-            push_text(&mut out, b"fault size")?;
-            push_spaced(&mut out, *size)?;
-        }
-        RecipeFault::HeaderCut { at, left } => {
-            push_text(&mut out, b"fault header at")?;
-            push_spaced(&mut out, *at)?;
-            push_text(&mut out, b" left")?;
-            push_spaced(&mut out, *left)?;
-        }
-        RecipeFault::ContentCut { at, wanted, left } => {
-            push_text(&mut out, b"fault content at")?;
-            push_spaced(&mut out, *at)?;
-            push_text(&mut out, b" wanted")?;
-            push_spaced(&mut out, *wanted)?;
-            push_text(&mut out, b" left")?;
-            push_spaced(&mut out, *left)?;
-        }
-        RecipeFault::NoMemory => unreachable!(),
-    }
+    push_text(&mut out, b"fault size")?;
+    push_spaced(&mut out, size)?;
     push_text(&mut out, b"\n")?;
     Ok(out)
+}
+
+/// The line of a header that is cut.
+fn header_line(alloc: Global, at: usize, left: usize) -> Result<Vec<u8>, NoMemory>
+    ensures { IfOk result (λ line. line.items ≡ lines.header_fault at left) }
+{
+    let mut out = Vec::new(alloc);
+    push_text(&mut out, b"fault header at")?;
+    push_spaced(&mut out, at)?;
+    push_text(&mut out, b" left")?;
+    push_spaced(&mut out, left)?;
+    push_text(&mut out, b"\n")?;
+    Ok(out)
+}
+
+/// The line of a content that is cut.
+fn content_line(alloc: Global, at: usize, wanted: u32, left: usize) -> Result<Vec<u8>, NoMemory>
+    ensures { IfOk result (λ line. line.items ≡ lines.content_fault at wanted left) }
+{
+    let mut out = Vec::new(alloc);
+    push_text(&mut out, b"fault content at")?;
+    push_spaced(&mut out, at)?;
+    push_text(&mut out, b" wanted")?;
+    push_spaced(&mut out, wanted)?;
+    push_text(&mut out, b" left")?;
+    push_spaced(&mut out, left)?;
+    push_text(&mut out, b"\n")?;
+    Ok(out)
+}
+
+/// The line of the first fault of a recipe array. Where that is want of memory, there is none, and it is passed on.
+pub fn recipe_fault_line(alloc: Global, fault: RecipeFault) -> Result<Vec<u8>, NoMemory>
+    ensures { IfOk result (λ line. lines.recipe_fault fault ≡ Some line.items) }
+{
+    match fault {
+        RecipeFault::TooLarge { size } => size_line(alloc, size),
+        RecipeFault::HeaderCut { at, left } => header_line(alloc, at, left),
+        RecipeFault::ContentCut { at, wanted, left } => content_line(alloc, at, wanted, left),
+        RecipeFault::NoMemory { cause } => Err(cause),
+    }
 }

@@ -69,6 +69,6 @@ pub fn answer(alloc: Global, input: &[u8], seed: Option<u64>) -> Result<Outcome,
             let line = scenario_line(alloc, line, why)?;
             Ok(Outcome::Refused { line })
         }
-        Err(ScenarioFault::NoMemory) => Err(NoMemory),
+        Err(ScenarioFault::NoMemory { cause }) => Err(cause),
     }
 }

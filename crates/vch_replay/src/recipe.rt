@@ -6,7 +6,7 @@ use crate::listing::{listing, recipe_fault_line};
 use crate::outcome::Outcome;
 use std::alloc::Global;
 use vch_base::NoMemory;
-use vch_recipe::{RecipeFault, records};
+use vch_recipe::records;
 
 /// A line for each record of the array that the input is, or its first fault.
 pub fn answer(alloc: Global, input: &[u8]) -> Result<Outcome, NoMemory>
@@ -17,9 +17,8 @@ pub fn answer(alloc: Global, input: &[u8]) -> Result<Outcome, NoMemory>
             let text = listing(alloc, &records)?;
             Ok(Outcome::Answered { text })
         }
-        Err(RecipeFault::NoMemory) => Err(NoMemory),
         Err(fault) => {
-            let line = recipe_fault_line(alloc, &fault)?;
+            let line = recipe_fault_line(alloc, fault)?;
             Ok(Outcome::Refused { line })
         }
     }

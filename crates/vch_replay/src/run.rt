@@ -26,6 +26,13 @@ fn perform(alloc: Global, command: Command, input: &[u8]) -> Result<Outcome, NoM
     }
 }
 
+/// The status of a run that memory was wanted for.
+fn out_of_memory(_cause: NoMemory) -> u8
+    ensures { result ≡ 5 }
+{
+    5
+}
+
 /// All that the program does, but for runs with workers. It always returns.
 ///
 /// The words are `check`, `play`, `play` with a seed, or `recipe`. The source is read to its end, or until 4,194,305 bytes were given; each read
@@ -73,7 +80,7 @@ pub fn run_plain<S: Source, K: Sink>(
     let input = match read_all(alloc, source) {
         Ok(input) => input,
         Err(InputFault::Failed) => return 3,
-        Err(InputFault::NoMemory) => return 5,
+        Err(InputFault::NoMemory { cause }) => return out_of_memory(cause),
         Err(InputFault::TooLong) => return 6,
     };
     match perform(alloc, command, input.as_slice()) {
@@ -85,6 +92,6 @@ pub fn run_plain<S: Source, K: Sink>(
             Ok(()) => 2,
             Err(_) => 4,
         },
-        Err(NoMemory) => 5,
+        Err(cause) => out_of_memory(cause),
     }
 }

@@ -30,7 +30,7 @@ use Rattle.vch_report.proofs.Wholes.{goes_on, lines_more, lines_none, read_again
 pub fault_read : (n : ℕ) (d : Read) (l : List ℕ) (p : List (List ℕ) × List ℕ) (stop : Stop) (r : Result Read ℕ)
     → Gives {X = Draft} {Y = Read} kept (Err stop) (step_of d l) → read_text n d (with_line_before l p) ≡ r
     → Reads (Err (fault_at n stop)) r
-fault_read n d l p stops.Memory r s e = tt
+fault_read n d l p (stops.Memory cause) r s e = tt
 fault_read n d l p stops.Fault r s e = sym e ∙ lines_more n d l p.0 p.1 ∙ ap (goes_on n p.0 p.1) s
 
 pub line_read : (n : ℕ) (d e : Read) (l : List ℕ) (p : List (List ℕ) × List ℕ) (r : Result Read ℕ)
@@ -121,18 +121,18 @@ found_by text (Err e) h = tt
 pub only_by : (text : List ℕ) (x : Result Report ReportFault) (r : Report) → Reads x (read_of text)
     → IsReport text r → IsRead x r
 only_by text (Ok a) r h g = whole_same a r (right_is (whole a) (whole r) (sym h ∙ read_again text r g))
-only_by text (Err faults.NoMemory) r h g = tt
+only_by text (Err (faults.NoMemory cause)) r h g = tt
 only_by text (Err (faults.At line)) r h g = let e = read_again text r g in absurd cc
 
 pub fault_by : (text : List ℕ) (x : Result Report ReportFault) → Reads x (read_of text) → IsFaultOf x text
 fault_by text (Ok r) h = tt
-fault_by text (Err faults.NoMemory) h = tt
+fault_by text (Err (faults.NoMemory cause)) h = tt
 fault_by text (Err (faults.At line)) h = read_fault text line h
 
 pub fault_only_by : (text : List ℕ) (x : Result Report ReportFault) (n : ℕ) → Reads x (read_of text)
     → IsFault text n → IsRefused x n
 fault_only_by text (Ok r) n h g = let e = fault_again text n g in absurd cc
-fault_only_by text (Err faults.NoMemory) n h g = tt
+fault_only_by text (Err (faults.NoMemory cause)) n h g = tt
 fault_only_by text (Err (faults.At line)) n h g = wrong_by line n (read_of text) h (fault_again text n g)
 
 -- ---- what is written, one more at a time

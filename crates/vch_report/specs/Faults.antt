@@ -46,17 +46,17 @@ pub record IsFault (text : List ℕ) (line : ℕ) : Type 0 where
 -- what reading answers where the text is a report's, unless memory ran out
 abbrev pub IsRead : Result Report ReportFault → Report → Type 0
 IsRead (Ok report) wanted = IsSame report wanted
-IsRead (Err faults.NoMemory) wanted = Unit {0}
+IsRead (Err (faults.NoMemory cause)) wanted = Unit {0}
 IsRead (Err (faults.At line)) wanted = ⊥
 
 -- what reading answers where the text has a fault, unless memory ran out
 abbrev pub IsRefused : Result Report ReportFault → ℕ → Type 0
 IsRefused (Ok report) wanted = ⊥
-IsRefused (Err faults.NoMemory) wanted = Unit {0}
+IsRefused (Err (faults.NoMemory cause)) wanted = Unit {0}
 IsRefused (Err (faults.At line)) wanted = line ≡ wanted
 
 -- a fault that is answered is the text's
 abbrev pub IsFaultOf : Result Report ReportFault → List ℕ → Type 0
 IsFaultOf (Ok report) text = Unit {0}
-IsFaultOf (Err faults.NoMemory) text = Unit {0}
+IsFaultOf (Err (faults.NoMemory cause)) text = Unit {0}
 IsFaultOf (Err (faults.At line)) text = IsFault text line

@@ -84,14 +84,14 @@ read_of text = read_text 1 nothing (split_of text)
 abbrev pub Gives : {X Y : Type 0} → (X → Y) → Result X Stop → Option Y → Type 0
 Gives view (Ok x) read = read ≡ Some (view x)
 Gives view (Err stops.Fault) read = read ≡ None
-Gives view (Err stops.Memory) read = Unit {0}
+Gives view (Err (stops.Memory cause)) read = Unit {0}
 
 -- the same for a whole text
 abbrev pub Reads : Result Report ReportFault → Result Read ℕ → Type 0
 Reads (Ok report) read = read ≡ Ok (whole report)
-Reads (Err faults.NoMemory) read = Unit {0}
+Reads (Err (faults.NoMemory cause)) read = Unit {0}
 Reads (Err (faults.At line)) read = read ≡ Err line
 
 abbrev pub fault_at : ℕ → Stop → ReportFault
-fault_at n stops.Memory = faults.NoMemory
+fault_at n (stops.Memory cause) = faults.NoMemory cause
 fault_at n stops.Fault = faults.At n

@@ -122,6 +122,6 @@ pub fn bytes_in(alloc: Global, rest: &[u8]) -> Result<Bytes, Stop>
             }
         }
         Err(HexFault::Malformed) => Err(Stop::Fault),
-        Err(HexFault::NoMemory) => Err(Stop::Memory),
+        Err(HexFault::NoMemory { cause }) => Err(Stop::from(cause)),
     }
 }

@@ -104,7 +104,7 @@ fn at_line(number: u32, stop: Stop) -> ReportFault
 {
     match stop {
         Stop::Fault => ReportFault::At { line: number },
-        Stop::Memory => ReportFault::NoMemory,
+        Stop::Memory { cause } => ReportFault::from(cause),
     }
 }
 

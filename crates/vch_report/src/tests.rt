@@ -175,7 +175,7 @@ fn fault(alloc: Global, text: &[u8]) -> Option<u32> {
             Err(_) => None,
         },
         Err(ReportFault::At { line }) => Some(line),
-        Err(ReportFault::NoMemory) => None,
+        Err(ReportFault::NoMemory { .. }) => None,
     }
 }
 
@@ -242,7 +242,7 @@ fn shown_faults(rt: HostRuntime) -> Result<(), Fail> {
     let alloc = rt.alloc();
     let at = format!(in alloc; "{}", ReportFault::At { line: 5 })?;
     assert_eq!(rt; at.as_str(), "fault report line 5");
-    let memory = format!(in alloc; "{}", ReportFault::NoMemory)?;
+    let memory = format!(in alloc; "{}", ReportFault::from(NoMemory::beyond(1, 1, 1)))?;
     assert_eq!(rt; memory.as_str(), "no memory");
     Ok(())
 }

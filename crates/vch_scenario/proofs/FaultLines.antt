@@ -270,12 +270,12 @@ full sc = Ok sc
 
 unless_ok : (r : Result Scenario ScenarioFault) (sc : Scenario) → Reads r (Ok sc) → Read.IsUnlessMemory r (Ok sc)
 unless_ok (Ok a) sc h = inl (ap (λ (x : Scenario). full x) (sym (same_answer sc a h)))
-unless_ok (Err faults.NoMemory) sc h = inr refl
+unless_ok (Err (faults.NoMemory cause)) sc h = inr tt
 unless_ok (Err (faults.At line why)) sc h = absurd cc
 
 unless_err : (r : Result Scenario ScenarioFault) (line : ℕ) (why : Why) → Reads r (Err (at_line line why)) → Read.IsUnlessMemory r (Err (faults.At line why))
 unless_err (Ok a) line why h = absurd cc
-unless_err (Err faults.NoMemory) line why h = inr refl
+unless_err (Err (faults.NoMemory cause)) line why h = inr tt
 unless_err (Err (faults.At n w)) line why h = let s = same_fault line n why w h in inl (let a = s.0 in let b = s.1 in cc)
 
 pub only_by : (text : List ℕ) (r : Result Scenario ScenarioFault) (sc : Scenario) → Reads r (read_of text) → Read.IsRead text sc → Read.IsUnlessMemory r (Ok sc)

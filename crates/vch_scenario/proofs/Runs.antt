@@ -26,7 +26,7 @@ unfolding read_lines
 lines_none n d rest = refl
 
 pub fault_read : (n : ℕ) (d : Draft) (l : List ℕ) (p : List (List ℕ) × List ℕ) (stop : Stop) (r : Result Scenario At) → Stops stop (step_of d l) → read_text n d (with_line_before l p) ≡ r → Stopped (fault_at n stop) r
-fault_read n d l p stops.Memory r s e = tt
+fault_read n d l p (stops.Memory cause) r s e = tt
 fault_read n d l p (stops.Fault why) r s e = sym e ∙ lines_more n d l p ∙ ap (goes_on n p.0 p.1) s
 
 pub line_read : (n : ℕ) (d e : Draft) (l : List ℕ) (p : List (List ℕ) × List ℕ) (r : Result Scenario At) → step_of d l ≡ Ok e → read_text n d (with_line_before l p) ≡ r → read_text (n + 1) e p ≡ r

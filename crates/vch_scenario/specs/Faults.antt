@@ -82,6 +82,10 @@ IsFault text at why = FirstFault 1 nothing (split_of text).0 (split_of text).1 a
 abbrev pub IsRead : List ℕ → Scenario → Type 0
 IsRead text sc = ((split_of text).1 ≡ []) × (e : Draft) × Lead nothing (split_of text).0 e × (e.place ≡ places.End) × (sc ≡ record { flags = e.flags; phases = e.phases })
 
+abbrev pub IsOutOfMemory : Result Scenario ScenarioFault → Type 0
+IsOutOfMemory (Err (faults.NoMemory cause)) = Unit {0}
+IsOutOfMemory result = ⊥
+
 -- it is this answer, or memory ran out
 abbrev pub IsUnlessMemory : Result Scenario ScenarioFault → Result Scenario ScenarioFault → Type 0
-IsUnlessMemory result answer = (result ≡ answer) ⊎ (result ≡ Err faults.NoMemory)
+IsUnlessMemory result answer = (result ≡ answer) ⊎ IsOutOfMemory result

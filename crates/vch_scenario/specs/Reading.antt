@@ -18,7 +18,7 @@ Tells view (Ok x) read = read ≡ Ok (view x)
 Tells view (Err e) read = read ≡ Err e
 
 abbrev pub Stops : {Y : Type 0} → Stop → Result Y Why → Type 0
-Stops stops.Memory read = Unit {0}
+Stops (stops.Memory cause) read = Unit {0}
 Stops (stops.Fault e) read = read ≡ Err e
 
 -- the same, unless memory ran out
@@ -34,4 +34,4 @@ formed None = Err Form
 -- what stops a line whose digits have this fault
 abbrev pub stop_of : HexFault → Stop
 stop_of hexes.Malformed = stops.Fault Form
-stop_of hexes.NoMemory = stops.Memory
+stop_of (hexes.NoMemory cause) = stops.Memory cause

@@ -99,11 +99,11 @@ read_of text = read_text 1 nothing (split_of text)
 
 -- what the reader returned
 abbrev pub Stopped : ScenarioFault → Result Scenario At → Type 0
-Stopped faults.NoMemory read = Unit {0}
+Stopped (faults.NoMemory cause) read = Unit {0}
 Stopped (faults.At line why) read = read ≡ Err (at_line line why)
 
 abbrev pub fault_at : ℕ → Stop → ScenarioFault
-fault_at n stops.Memory = faults.NoMemory
+fault_at n (stops.Memory cause) = faults.NoMemory cause
 fault_at n (stops.Fault why) = faults.At n why
 
 abbrev pub Reads : Result Scenario ScenarioFault → Result Scenario At → Type 0

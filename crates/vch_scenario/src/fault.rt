@@ -1,5 +1,6 @@
 ghost use Rattle.std.specs.Prelude.{◌≡◌};
 ghost use Rattle.vch_scenario.specs.declared.fault.Stop.TheVariants.{Fault, Memory};
+ghost use Rattle.vch_scenario.specs.declared.fault.ScenarioFault.TheVariants as scenario_faults;
 ghost use Rattle.vch_scenario.specs.Reading.{stop_of};
 
 use thiserror::Error;
@@ -24,20 +25,28 @@ pub enum Why {
 }
 
 /// Why a text is no scenario: its first line that can't stand, counted from 1.
-#[derive(Clone, Copy, Debug, PartialEq, Eq, Error)]
+#[derive(Debug, Drop, PartialEq, Eq, Error)]
 pub enum ScenarioFault {
     #[error("fault line {line} why {why}")]
     At { line: u32, why: Why },
     /// Memory ran out. It says nothing of the text.
     #[error("no memory")]
-    NoMemory,
+    NoMemory { cause: NoMemory },
+}
+
+impl From<NoMemory> for ScenarioFault {
+    ghost from_gives = { λ cause e. e ≡ scenario_faults.NoMemory cause };
+
+    fn from(cause: NoMemory) -> Self {
+        ScenarioFault::NoMemory { cause }
+    }
 }
 
 /// What stops the reading of a line.
-#[derive(Clone, Copy, Debug, PartialEq, Eq)]
+#[derive(Debug, Drop, PartialEq, Eq)]
 pub enum Stop {
     Fault { why: Why },
-    Memory,
+    Memory { cause: NoMemory },
 }
 
 impl From<Why> for Stop {
@@ -49,10 +58,10 @@ impl From<Why> for Stop {
 }
 
 impl From<NoMemory> for Stop {
-    ghost from_gives = { λ _ e. e ≡ Memory };
+    ghost from_gives = { λ cause e. e ≡ Memory cause };
 
-    fn from(_: NoMemory) -> Self {
-        Stop::Memory
+    fn from(cause: NoMemory) -> Self {
+        Stop::Memory { cause }
     }
 }
 
@@ -62,7 +71,7 @@ impl From<HexFault> for Stop {
     fn from(fault: HexFault) -> Self {
         match fault {
             HexFault::Malformed => Stop::Fault { why: Why::Form },
-            HexFault::NoMemory => Stop::Memory,
+            HexFault::NoMemory { cause } => Stop::from(cause),
         }
     }
 }

@@ -178,7 +178,7 @@ fn at_line(number: u32, stop: Stop) -> ScenarioFault
 {
     match stop {
         Stop::Fault { why } => ScenarioFault::At { line: number, why },
-        Stop::Memory => ScenarioFault::NoMemory,
+        Stop::Memory { cause } => ScenarioFault::from(cause),
     }
 }
 

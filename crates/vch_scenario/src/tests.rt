@@ -1,6 +1,7 @@
 use crate::{ScenarioFault, Why, read, write};
 use std::alloc::{AllocError, Global};
 use std::test::Fail;
+use vch_base::NoMemory;
 
 /// A client that is a donor and a service that receives importance: two tasks, two phases.
 const SERVICE: &str =
@@ -205,7 +206,12 @@ fn each_broken_text_has_its_first_fault(rt: HostRuntime) -> Result<(), Fail> {
         why: Why::Limit,
     };
     assert_eq!(rt; fault.to_string(a)?.as_str(), "fault line 7 why limit");
-    assert_eq!(rt; ScenarioFault::NoMemory.to_string(a)?.as_str(), "no memory");
+    assert_eq!(rt;
+        ScenarioFault::from(NoMemory::beyond(1, 1, 1))
+            .to_string(a)?
+            .as_str(),
+        "no memory"
+    );
     Ok(())
 }
 

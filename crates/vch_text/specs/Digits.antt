@@ -21,4 +21,4 @@ bytes_of w =
 abbrev pub Decodes : Result (List ℕ) HexFault → Option (List ℕ) → Type 0
 Decodes (Ok bytes) read = read ≡ Some bytes
 Decodes (Err Malformed) read = read ≡ None
-Decodes (Err NoMemory) read = Unit {0}
+Decodes (Err (NoMemory cause)) read = Unit {0}

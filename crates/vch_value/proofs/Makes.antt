@@ -144,7 +144,7 @@ module _ (p : Picture) (old new : Entries) (k1 k2 : Kept) (laws : Lawful k1) (sa
 
   gets : (a : Result (Option Value) ℤ) (r : Result Got GetFault) → NotNew k1.slots a → Gets k1 a r k2 → Stands (got_picture r p) new k2
   gets (Err code) (Err (fault.Refused c)) new_one g = unchanged (ap (λ (k : Kept). k.slots) g.1)
-  gets (Err code) (Err fault.NoMemory) new_one g = absurd g
+  gets (Err code) (Err (fault.NoMemory cause)) new_one g = absurd g
   gets (Err code) (Ok r) new_one g = absurd g
   gets (Ok None) (Ok got.Nothing) new_one g = unchanged (ap (λ (k : Kept). k.slots) g)
   gets (Ok None) (Ok (got.Value h f persist)) new_one g = absurd g
@@ -153,7 +153,7 @@ module _ (p : Picture) (old new : Entries) (k1 k2 : Kept) (laws : Lawful k1) (sa
   gets (Ok (Some x)) (Ok (got.Value h false persist)) new_one g = again x h persist g.0.0 g.0.1.0 g.0.1.1
   gets (Ok (Some x)) (Ok (got.Value h true persist)) new_one g = fresh x h persist g.0.0 (new_one x refl g.0.1.0) k1.free refl g.0.1.1 g.0.1.2
   gets (Ok (Some x)) (Err (fault.Refused c)) new_one g = absurd g.0
-  gets (Ok (Some x)) (Err fault.NoMemory) new_one g = unchanged g.0.0
+  gets (Ok (Some x)) (Err (fault.NoMemory cause)) new_one g = unchanged g.0.0
 
   pub stands_make : (by command : ℕ) (previous : Option ℕ) (content : List ℕ) (r : Result Got GetFault) → Gets k1 (answer k1.rules by command (previous_of k1.slots previous) content) r k2 → Stands (got_picture r p) new k2
   stands_make by command previous content r g = gets _ r (answer_new k1 by command previous content laws) g

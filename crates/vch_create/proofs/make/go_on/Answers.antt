@@ -62,16 +62,16 @@ pub returns-in-Err-Refused : goal.returns-in-Err-Refused
 returns-in-Err-Refused c = refused_follows c.args.parts.now c.args.task c.requires.task c.requires.next c.requires.idle c.requires.reached c.ask.new.parts c.refuse.new.parts c.in-Err-Refused.code
     (subst (λ r. Answers c.args.task r c.args.parts.now c.ask.new.parts) (c.in-Err-Refused.is ∙ ap (λ x. Err x) c.in-Err-Refused.field-0-is) c.ask.ensures) c.refuse.ensures
 
-pub refuse-requires-in-Err-NoMemory-clause-reached : goal.refuse-requires-in-Err-NoMemory-clause-reached
-refuse-requires-in-Err-NoMemory-clause-reached c = roomier_reached _ _ (memory_roomier c.args.parts.now c.args.task c.requires.task c.requires.next c.requires.idle c.requires.reached c.ask.new.parts
+pub out_of_memory-requires-clause-reached : goal.out_of_memory-requires-clause-reached
+out_of_memory-requires-clause-reached c = roomier_reached _ _ (memory_roomier c.args.parts.now c.args.task c.requires.task c.requires.next c.requires.idle c.requires.reached c.ask.new.parts c.in-Err-NoMemory.cause
     (subst (λ r. Answers c.args.task r c.args.parts.now c.ask.new.parts) (c.in-Err-NoMemory.is ∙ ap (λ x. Err x) c.in-Err-NoMemory.field-0-is) c.ask.ensures)) c.requires.reached
 
-pub refuse-requires-in-Err-NoMemory-clause-forms : goal.refuse-requires-in-Err-NoMemory-clause-forms
-refuse-requires-in-Err-NoMemory-clause-forms c = roomier_forms c.args.parts.now c.args.task c.requires.task c.requires.next c.requires.idle c.requires.reached c.ask.new.parts
-    (memory_roomier c.args.parts.now c.args.task c.requires.task c.requires.next c.requires.idle c.requires.reached c.ask.new.parts
+pub out_of_memory-requires-clause-forms : goal.out_of_memory-requires-clause-forms
+out_of_memory-requires-clause-forms c = roomier_forms c.args.parts.now c.args.task c.requires.task c.requires.next c.requires.idle c.requires.reached c.ask.new.parts
+    (memory_roomier c.args.parts.now c.args.task c.requires.task c.requires.next c.requires.idle c.requires.reached c.ask.new.parts c.in-Err-NoMemory.cause
     (subst (λ r. Answers c.args.task r c.args.parts.now c.ask.new.parts) (c.in-Err-NoMemory.is ∙ ap (λ x. Err x) c.in-Err-NoMemory.field-0-is) c.ask.ensures))
 
 pub returns : goal.returns
-returns c = wanted_follows c.args.parts.now c.args.task c.requires.task c.requires.next c.requires.idle c.requires.reached c.ask.new.parts c.refuse-in-Err-NoMemory.new.parts _ refl
-    (memory_roomier c.args.parts.now c.args.task c.requires.task c.requires.next c.requires.idle c.requires.reached c.ask.new.parts
-    (subst (λ r. Answers c.args.task r c.args.parts.now c.ask.new.parts) (c.in-Err-NoMemory.is ∙ ap (λ x. Err x) c.in-Err-NoMemory.field-0-is) c.ask.ensures)) c.refuse-in-Err-NoMemory.ensures
+returns c = wanted_follows c.args.parts.now c.args.task c.requires.task c.requires.next c.requires.idle c.requires.reached c.ask.new.parts c.out_of_memory.new.parts _ refl
+    (memory_roomier c.args.parts.now c.args.task c.requires.task c.requires.next c.requires.idle c.requires.reached c.ask.new.parts c.in-Err-NoMemory.cause
+    (subst (λ r. Answers c.args.task r c.args.parts.now c.ask.new.parts) (c.in-Err-NoMemory.is ∙ ap (λ x. Err x) c.in-Err-NoMemory.field-0-is) c.ask.ensures)) c.out_of_memory.ensures

@@ -33,18 +33,18 @@ give_name-requires-clause-next c = next_few c.args.parts.now c.requires.reached 
 pub give_name-requires-clause-names : goal.give_name-requires-clause-names
 give_name-requires-clause-names c = name_references_few c.args.parts.now c.requires.reached c.args.task c.requires.task
 
-pub refuse-requires-clause-reached : goal.refuse-requires-clause-reached
-refuse-requires-clause-reached c =
+pub out_of_memory-requires-clause-reached : goal.out_of_memory-requires-clause-reached
+out_of_memory-requires-clause-reached c =
     formed_by (frame_of c.args.parts.now.frames c.args.task) c.in-Some.map _ (sym (c.map_of.ensures ∙ ap (λ (w : Working). map_in w.frame) c.at-2.ensures) ∙ c.in-Some.is) (λ f own forms.
     reserved_reached c.args.parts.now c.args.task c.requires.task c.requires.next c.requires.idle f c.in-Some.map own forms c.give_name.new.vouchers c.give_name.new.spaces
-    c.in_default-give_name.ensures.refused c.in_default-give_name.ensures.others c.in_default-give_name.ensures.names c.in_default-give_name.ensures.next c.requires.reached)
+    c.in-Err.ensures.refused c.in-Err.ensures.others c.in-Err.ensures.names c.in-Err.ensures.next c.requires.reached)
 
-pub returns-in_default-give_name : goal.returns-in_default-give_name
-returns-in_default-give_name c =
+pub returns-in-Err : goal.returns-in-Err
+returns-in-Err c =
     formed_by (frame_of c.args.parts.now.frames c.args.task) c.in-Some.map _ (sym (c.map_of.ensures ∙ ap (λ (w : Working). map_in w.frame) c.at-2.ensures) ∙ c.in-Some.is) (λ f own forms.
     wanted_follows c.args.parts.now c.args.task c.requires.task c.requires.next c.requires.idle f c.in-Some.map own forms c.give_name.new.vouchers c.give_name.new.spaces
-    c.in_default-give_name.ensures.refused c.in_default-give_name.ensures.others c.in_default-give_name.ensures.names c.in_default-give_name.ensures.next c.refuse.new.parts
-    c.of.result.number c.of.ensures c.refuse.ensures)
+    c.in-Err.ensures.refused c.in-Err.ensures.others c.in-Err.ensures.names c.in-Err.ensures.next c.out_of_memory.new.parts
+    _ refl c.out_of_memory.ensures)
 
 pub push-requires : goal.push-requires
 push-requires c =

@@ -1,6 +1,6 @@
 use Rattle.std.proofs.Common.{◌∙◌, sym, refl}
 use Rattle.vch_create.proofs.RefusedEvent.{refuse_room, refuse_is}
-use Rattle.vch_create.proofs.refuse.refuse.Goals as goal
+use Rattle.vch_create.proofs.refuse.end_with.Goals as goal
 
 pub push-requires : goal.push-requires
 push-requires c =
