@@ -38,14 +38,23 @@ module _ {terms : Terms} {words : List ℕ} {views : List View} (h : CountsKept 
 
   -- where a seat has all the room and all the tries, nobody else has a count or released a slot
   pub counts_alone : (slot id : ℕ) (v : View) → get_elem? views id ≡ some v → share_of v ≡ terms.makes → sum_by (counts_of slot) views ≤ counts_of slot v
-  counts_alone slot id v at all = let a = sum-beside (counts_of slot) share_of views (λ i u e. let f = (h.fair i u e).made in let b = at-le-sum u.own slot in omega arith) id v at in let m = h.most in omega arith
+  counts_alone slot id v at all =
+      let a = sum-beside (counts_of slot) share_of views (λ i u e. let f = (h.fair i u e).made in
+      let b = at-le-sum u.own slot in omega arith) id v at in
+      let m = h.most in omega arith
 
   pub freed_alone : (slot id : ℕ) (v : View) → get_elem? views id ≡ some v → share_of v ≡ terms.makes → sum_by (freed_by slot) views ≤ freed_by slot v
-  freed_alone slot id v at all = let a = sum-beside (freed_by slot) share_of views (λ i u e. let f = (h.fair i u e).freed slot in omega arith) id v at in let m = h.most in omega arith
+  freed_alone slot id v at all =
+      let a = sum-beside (freed_by slot) share_of views (λ i u e. let f = (h.fair i u e).freed slot in omega arith) id v at in
+      let m = h.most in omega arith
 
 -- a slot of which nothing differs stands as before
 carries : (views : List View) (id : ℕ) (v w : View) (slot word : ℕ) → get_elem? views id ≡ some v → Same slot v w → tries_of v ≤ tries_of w → IsSlotWord views slot word → IsSlotWord (set views id w) slot word
-carries views id v w slot word at same more stands = let c = sum-set (counts_of slot) views id v w at in let k = sum-set (knows slot) views id v w at in let f = sum-set (freed_by slot) views id v w at in let t = sum-set tries_of views id v w at in
+carries views id v w slot word at same more stands =
+    let c = sum-set (counts_of slot) views id v w at in
+    let k = sum-set (knows slot) views id v w at in
+    let f = sum-set (freed_by slot) views id v w at in
+    let t = sum-set tries_of views id v w at in
     let sc = same.counts in let sk = same.known in let sf = same.let_go_by in
     record {
       below = λ lt. let u = stands.below lt in let u1 = u.counted in let u2 = u.unknown in let u3 = u.unfreed in record { counted = omega arith; unknown = omega arith; unfreed = omega arith };
@@ -84,10 +93,22 @@ module _ (terms : Terms) (slots id : ℕ) (me : M) (slot : ℕ) (wide : IsWide m
   -- a make of a slot in use
   counts_one : (s : St) → CountsKept terms s.words s.views → get_elem? s.views id ≡ some v → 1 ≤ v.room → get_or s.words slot 0 < released_mark
       → CountsKept terms (set s.words slot (get_or s.words slot 0 + 1)) (set s.views id (after_made v slot (get_or s.words slot 0)))
-  counts_one s h at has below = let n : ℕ = get_or s.words slot 0 in let w : View = after_made v slot n in let u = (h.slots slot is_slot).below below in
+  counts_one s h at has below =
+      let n : ℕ = get_or s.words slot 0 in
+      let w : View = after_made v slot n in
+      let u = (h.slots slot is_slot).below below in
       let new : counts_of slot w ≡ counts_of slot v + 1 = get_or-set_same v.own slot (counts_of slot v + 1) 0 inside in
-      let c = sum-set (counts_of slot) s.views id v w at in let k = sum-set (knows slot) s.views id v w at in let f = sum-set (freed_by slot) s.views id v w at in
-      let few = counts_few h slot in let fewer = tries_few h in let b = h.bound in let u1 = u.counted in let u2 = u.unknown in let u3 = u.unfreed in let fair = h.fair id v at in let m = fair.made in
+      let c = sum-set (counts_of slot) s.views id v w at in
+      let k = sum-set (knows slot) s.views id v w at in
+      let f = sum-set (freed_by slot) s.views id v w at in
+      let few = counts_few h slot in
+      let fewer = tries_few h in
+      let b = h.bound in
+      let u1 = u.counted in
+      let u2 = u.unknown in
+      let u3 = u.unfreed in
+      let fair = h.fair id v at in
+      let m = fair.made in
       let total = sum_by-set (λ (x : ℕ). x) v.own slot (counts_of slot v + 1) 0 inside in
       placed terms s.words s.views h id v w at slot (n + 1) is_slot
       (λ j ne. record { counts = get_or-set_other v.own slot j (counts_of slot v + 1) 0 ne; known = refl; let_go_by = refl })
@@ -99,8 +120,13 @@ module _ (terms : Terms) (slots id : ℕ) (me : M) (slot : ℕ) (wide : IsWide m
   -- a make of a released slot
   counts_none : (s : St) → CountsKept terms s.words s.views → get_elem? s.views id ≡ some v → 1 ≤ v.room → released_mark ≤ get_or s.words slot 0
       → CountsKept terms (set s.words slot (get_or s.words slot 0 + 1)) (set s.views id (after_dead v slot (get_or s.words slot 0)))
-  counts_none s h at has above = let n : ℕ = get_or s.words slot 0 in let w : View = after_dead v slot n in let g = (h.slots slot is_slot).above above in
-      let c = sum-set (counts_of slot) s.views id v w at in let f = sum-set (freed_by slot) s.views id v w at in let t = sum-set tries_of s.views id v w at in
+  counts_none s h at has above =
+      let n : ℕ = get_or s.words slot 0 in
+      let w : View = after_dead v slot n in
+      let g = (h.slots slot is_slot).above above in
+      let c = sum-set (counts_of slot) s.views id v w at in
+      let f = sum-set (freed_by slot) s.views id v w at in
+      let t = sum-set tries_of s.views id v w at in
       let g1 = g.counted in let g2 = g.tried in let g3 = g.freed in let fair = h.fair id v at in let m = fair.made in
       placed terms s.words s.views h id v w at slot (n + 1) is_slot
       (λ j ne. record { counts = refl; known = ap bit (get_or-set_other v.dead slot j true false ne); let_go_by = refl })
@@ -110,7 +136,10 @@ module _ (terms : Terms) (slots id : ℕ) (me : M) (slot : ℕ) (wide : IsWide m
       (record { below = λ lt. absurd (omega arith); above = λ _. record { counted = omega arith; tried = omega arith; freed = omega arith } })
 
   pub make_keeps : 1 ≤ v.room → Allows (CountRule terms) slots id me slot (λ n. (n + 1) % 2 ^ 64) (make_plays (step slots slot 1 0 none) me)
-  make_keeps has s h _ at small = let n : ℕ = get_or s.words slot 0 in let met = λ (w : View) (e : w.met ≡ set v.met slot n). ap (λ (l : List ℕ). get_or l slot 0) e ∙ get_or-set_same v.met slot n 0 (let z = wide.met_wide in omega arith) in
+  make_keeps has s h _ at small =
+      let n : ℕ = get_or s.words slot 0 in
+      let met = λ (w : View) (e : w.met ≡ set v.met slot n). ap (λ (l : List ℕ). get_or l slot 0) e ∙ get_or-set_same v.met slot n 0 (let z = wide.met_wide in
+      omega arith) in
       let few = counts_few h slot in let fewer = tries_few h in let b = h.bound in dite (dec_le released_mark n)
       (λ above. let g2 = ((h.slots slot is_slot).above above).tried in let turn : n + 1 ≡ (n + 1) % 18446744073709551616 = omega arith in (
         after_dead v slot n,
@@ -132,10 +161,16 @@ module _ (terms : Terms) (slots id : ℕ) (me : M) (slot : ℕ) (wide : IsWide m
   lets_go : (s : St) → CountsKept terms s.words s.views → get_elem? s.views id ≡ some v → 1 ≤ counts_of slot v → get_or s.words slot 0 ≡ counts_of slot v
       → CountsKept terms (set s.words slot released_mark) (set s.views id (after_released v slot (get_or s.words slot 0)))
   lets_go s h at held hit = let n : ℕ = get_or s.words slot 0 in let w : View = after_released v slot n in let few = tries_few h in let fair = h.fair id v at in let m = fair.made in let own = at-le-sum v.own slot in let b = h.bound in
-      let t = sum-at tries_of s.views id v at in let below : n < released_mark = omega arith in let u = (h.slots slot is_slot).below below in let u1 = u.counted in let u3 = u.unfreed in
+      let t = sum-at tries_of s.views id v at in
+      let below : n < released_mark = omega arith in
+      let u = (h.slots slot is_slot).below below in
+      let u1 = u.counted in
+      let u3 = u.unfreed in
       let none_left : counts_of slot w ≡ 0 = get_or-set_same v.own slot 0 0 inside in
       let freed_here : freed_by slot w ≡ 1 = ap bit (get_or-set_same v.freed slot true false (let z = wide.freed_wide in omega arith)) in
-      let c = sum-set (counts_of slot) s.views id v w at in let f = sum-set (freed_by slot) s.views id v w at in let f0 = sum-at (freed_by slot) s.views id v at in
+      let c = sum-set (counts_of slot) s.views id v w at in
+      let f = sum-set (freed_by slot) s.views id v w at in
+      let f0 = sum-at (freed_by slot) s.views id v at in
       let total = sum_by-set (λ (x : ℕ). x) v.own slot 0 0 inside in
       placed terms s.words s.views h id v w at slot released_mark is_slot
       (λ j ne. record { counts = get_or-set_other v.own slot j 0 0 ne; known = ap bit (get_or-set_other v.dead slot j true false ne); let_go_by = ap bit (get_or-set_other v.freed slot j true false ne) })
@@ -150,7 +185,10 @@ module _ (terms : Terms) (slots id : ℕ) (me : M) (slot : ℕ) (wide : IsWide m
 
   -- a seat with all the room and all the tries meets its own count
   meets_own : (s : St) → CountsKept terms s.words s.views → get_elem? s.views id ≡ some v → 1 ≤ counts_of slot v → v.room + v.tries ≡ terms.makes → get_or s.words slot 0 ≡ counts_of slot v
-  meets_own s h at held all = let n : ℕ = get_or s.words slot 0 in let alone = counts_alone h slot id v at all in let mine = sum-at (counts_of slot) s.views id v at in dite (dec_le released_mark n)
+  meets_own s h at held all =
+      let n : ℕ = get_or s.words slot 0 in
+      let alone = counts_alone h slot id v at all in
+      let mine = sum-at (counts_of slot) s.views id v at in dite (dec_le released_mark n)
       (λ above. let g1 = ((h.slots slot is_slot).above above).counted in absurd (omega arith))
       (λ not. let u1 = ((h.slots slot is_slot).below (lt_of_not-le not)).counted in omega arith)
 
@@ -176,14 +214,16 @@ module _ (terms : Terms) (slots id : ℕ) (me : M) (slot : ℕ) (wide : IsWide m
 
 -- a seat says what it offers
 pub offer_keeps : (terms : Terms) (slots id : ℕ) (me : M) (room : ℕ) → 0 < terms.slots → Allows (CountRule terms) slots id me 0 (λ n. either (eqb n room) room n) (offer_plays (step slots 0 room room none) me)
-offer_keeps terms slots id me room is_slot s h _ at small = let n : ℕ = get_or s.words 0 0 in let w : View = record me.0 { offer = room } in (
-  w,
-  keeps,
-  tt,
-  subst (λ (x : ℕ). CountsKept terms (set s.words 0 x) (set s.views id w)) (same n)
-      (looked_at terms s.words s.views h id me.0 w at 0 is_slot (λ j. unchanged j me.0 w refl refl refl) refl refl (let f = h.fair id me.0 at in record { made = f.made; freed = f.freed })),
-  (refl, refl),
-)
+offer_keeps terms slots id me room is_slot s h _ at small =
+    let n : ℕ = get_or s.words 0 0 in
+    let w : View = record me.0 { offer = room } in (
+      w,
+      keeps,
+      tt,
+      subst (λ (x : ℕ). CountsKept terms (set s.words 0 x) (set s.views id w)) (same n)
+          (looked_at terms s.words s.views h id me.0 w at 0 is_slot (λ j. unchanged j me.0 w refl refl refl) refl refl (let f = h.fair id me.0 at in record { made = f.made; freed = f.freed })),
+      (refl, refl),
+    )
   where
     same : (n : ℕ) → n ≡ either (eqb n room) room n
     same n = dite (ℕ_discrete n room) (λ e. e ∙ sym (ap (λ b. either b room n) (eq-eqb n room e))) (λ ne. sym (ap (λ b. either b room n) (ne_eqb n room ne)))

@@ -30,7 +30,10 @@ split_keeps terms id v fits s h at = record {
       (λ (old : get_elem? (set s.views id (kept_part v)) i ≡ some u). ⊎_elim (λ (t : (i ≡ id) × ((kept_part v) ≡ u)). subst IsFair t.1 mine) (λ (t : (i ≢ id) × (get_elem? s.views i ≡ some u)). h.fair i u t.1) (at_set s.views id i (kept_part v) u old))
       (λ (new : (new_part v) ≡ u). subst IsFair new (new_fair v))
       (at_snoc (set s.views id (kept_part v)) (new_part v) u i e);
-  most = let a = sum-set share_of s.views id v (kept_part v) at in let b = sum_by_push share_of (set s.views id (kept_part v)) (new_part v) in let m = h.most in omega arith;
+  most =
+      let a = sum-set share_of s.views id v (kept_part v) at in
+      let b = sum_by_push share_of (set s.views id (kept_part v)) (new_part v) in
+      let m = h.most in omega arith;
   bound = h.bound;
 }
   where
@@ -38,9 +41,18 @@ split_keeps terms id v fits s h at = record {
     mine = let f = h.fair id v at in record { made = f.made; freed = f.freed }
 
     stands : (slot word : ℕ) → IsSlotWord s.views slot word → IsSlotWord (set s.views id (kept_part v) ++ (new_part v) ∷ []) slot word
-    stands slot word was = let c = sum-set (counts_of slot) s.views id v (kept_part v) at in let k = sum-set (knows slot) s.views id v (kept_part v) at in let f = sum-set (freed_by slot) s.views id v (kept_part v) at in let t = sum-set tries_of s.views id v (kept_part v) at in
-        let c' = sum_by_push (counts_of slot) (set s.views id (kept_part v)) (new_part v) in let k' = sum_by_push (knows slot) (set s.views id (kept_part v)) (new_part v) in let f' = sum_by_push (freed_by slot) (set s.views id (kept_part v)) (new_part v) in
-        let t' = sum_by_push tries_of (set s.views id (kept_part v)) (new_part v) in let c0 = new_counts v slot in let f0 = new_freed v slot in let k0 = sum-at (knows slot) s.views id v at in
+    stands slot word was =
+        let c = sum-set (counts_of slot) s.views id v (kept_part v) at in
+        let k = sum-set (knows slot) s.views id v (kept_part v) at in
+        let f = sum-set (freed_by slot) s.views id v (kept_part v) at in
+        let t = sum-set tries_of s.views id v (kept_part v) at in
+        let c' = sum_by_push (counts_of slot) (set s.views id (kept_part v)) (new_part v) in
+        let k' = sum_by_push (knows slot) (set s.views id (kept_part v)) (new_part v) in
+        let f' = sum_by_push (freed_by slot) (set s.views id (kept_part v)) (new_part v) in
+        let t' = sum_by_push tries_of (set s.views id (kept_part v)) (new_part v) in
+        let c0 = new_counts v slot in
+        let f0 = new_freed v slot in
+        let k0 = sum-at (knows slot) s.views id v at in
         record {
           below = λ lt. let u = was.below lt in let u1 = u.counted in let u2 = u.unknown in let u3 = u.unfreed in record { counted = omega arith; unknown = omega arith; unfreed = omega arith };
           above = λ le. let g = was.above le in let g1 = g.counted in let g2 = g.tried in let g3 = g.freed in record { counted = omega arith; tried = omega arith; freed = omega arith };
@@ -55,7 +67,10 @@ join_keeps terms id other v w s h at apart there = record {
       (λ (t : (i ≢ other) × (get_elem? (set s.views id (both_views v w)) i ≡ some u)).
       ⊎_elim (λ (x : (i ≡ id) × (both_views v w ≡ u)). subst IsFair x.1 mine) (λ (x : (i ≢ id) × (get_elem? s.views i ≡ some u)). h.fair i u x.1) (at_set s.views id i (both_views v w) u t.1))
       (at_set (set s.views id (both_views v w)) other i spent_view u e);
-  most = let a = sum-set share_of s.views id v (both_views v w) at in let b = sum-set share_of (set s.views id (both_views v w)) other w spent_view there in let m = h.most in omega arith;
+  most =
+      let a = sum-set share_of s.views id v (both_views v w) at in
+      let b = sum-set share_of (set s.views id (both_views v w)) other w spent_view there in
+      let m = h.most in omega arith;
   bound = h.bound;
 }
   where
@@ -69,17 +84,30 @@ join_keeps terms id other v w s h at apart there = record {
     knows_both slot = subst (λ b. bit b ≤ knows slot v + knows slot w) (sym (united-at v.dead w.dead slot)) (bit-or-le (get_or v.dead slot false) (get_or w.dead slot false))
 
     mine : IsFair (both_views v w)
-    mine = let f = h.fair id v at in let g = h.fair other w was_there in let f1 = f.made in let g1 = g.made in let a = sum-added v.own w.own in record {
-      made = omega arith;
-      freed = λ slot. let x = f.freed slot in let y = g.freed slot in
-          let z = subst (λ b. bit b ≤ freed_by slot v + freed_by slot w) (sym (united-at v.freed w.freed slot)) (bit-or-le (get_or v.freed slot false) (get_or w.freed slot false)) in omega arith;
-    }
+    mine =
+        let f = h.fair id v at in
+        let g = h.fair other w was_there in
+        let f1 = f.made in
+        let g1 = g.made in
+        let a = sum-added v.own w.own in record {
+          made = omega arith;
+          freed = λ slot. let x = f.freed slot in let y = g.freed slot in
+              let z = subst (λ b. bit b ≤ freed_by slot v + freed_by slot w) (sym (united-at v.freed w.freed slot)) (bit-or-le (get_or v.freed slot false) (get_or w.freed slot false)) in omega arith;
+        }
 
     stands : (slot word : ℕ) → IsSlotWord s.views slot word → IsSlotWord (set (set s.views id (both_views v w)) other spent_view) slot word
     stands slot word was = let l = set s.views id (both_views v w) in
-        let c = sum-set (counts_of slot) s.views id v (both_views v w) at in let k = sum-set (knows slot) s.views id v (both_views v w) at in let f = sum-set (freed_by slot) s.views id v (both_views v w) at in let t = sum-set tries_of s.views id v (both_views v w) at in
-        let c' = sum-set (counts_of slot) l other w spent_view there in let k' = sum-set (knows slot) l other w spent_view there in let f' = sum-set (freed_by slot) l other w spent_view there in let t' = sum-set tries_of l other w spent_view there in
-        let cb = added-at v.own w.own slot in let kb = knows_both slot in let two = sum-two (freed_by slot) s.views id other v w at apart was_there in
+        let c = sum-set (counts_of slot) s.views id v (both_views v w) at in
+        let k = sum-set (knows slot) s.views id v (both_views v w) at in
+        let f = sum-set (freed_by slot) s.views id v (both_views v w) at in
+        let t = sum-set tries_of s.views id v (both_views v w) at in
+        let c' = sum-set (counts_of slot) l other w spent_view there in
+        let k' = sum-set (knows slot) l other w spent_view there in
+        let f' = sum-set (freed_by slot) l other w spent_view there in
+        let t' = sum-set tries_of l other w spent_view there in
+        let cb = added-at v.own w.own slot in
+        let kb = knows_both slot in
+        let two = sum-two (freed_by slot) s.views id other v w at apart was_there in
         record {
           below = λ lt. let u = was.below lt in let u1 = u.counted in let u2 = u.unknown in let u3 = u.unfreed in let fb = freed_both slot (omega arith) in record { counted = omega arith; unknown = omega arith; unfreed = omega arith };
           above = λ le. let g = was.above le in let g1 = g.counted in let g2 = g.tried in let g3 = g.freed in let fb = freed_both slot (omega arith) in record { counted = omega arith; tried = omega arith; freed = omega arith };

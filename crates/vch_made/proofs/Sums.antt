@@ -25,21 +25,41 @@ module _ {X : Type 0} where
   pub sum-two : (f : X → ℕ) (l : List X) (i j : ℕ) (v w : X) → get_elem? l i ≡ some v → j ≢ i → get_elem? l j ≡ some w → f v + f w ≤ sum_by f l
   sum-two f [] i j v w at apart there = absurd (some-ne-none v (sym at))
   sum-two f (x ∷ xs) zero zero v w at apart there = absurd (apart refl)
-  sum-two f (x ∷ xs) zero (suc j) v w at apart there = let e : f x ≡ f v = ap f (some-injective x v at) in let r = sum-at f xs j w there in let a = sum_by-cons f x xs in omega arith
-  sum-two f (x ∷ xs) (suc i) zero v w at apart there = let e : f x ≡ f w = ap f (some-injective x w there) in let r = sum-at f xs i v at in let a = sum_by-cons f x xs in omega arith
-  sum-two f (x ∷ xs) (suc i) (suc j) v w at apart there = let r = sum-two f xs i j v w at (λ e. apart (ap suc e)) there in let a = sum_by-cons f x xs in omega arith
+  sum-two f (x ∷ xs) zero (suc j) v w at apart there =
+      let e : f x ≡ f v = ap f (some-injective x v at) in
+      let r = sum-at f xs j w there in
+      let a = sum_by-cons f x xs in omega arith
+  sum-two f (x ∷ xs) (suc i) zero v w at apart there =
+      let e : f x ≡ f w = ap f (some-injective x w there) in
+      let r = sum-at f xs i v at in
+      let a = sum_by-cons f x xs in omega arith
+  sum-two f (x ∷ xs) (suc i) (suc j) v w at apart there =
+      let r = sum-two f xs i j v w at (λ e. apart (ap suc e)) there in
+      let a = sum_by-cons f x xs in omega arith
 
   -- a sum below another, view by view
   pub sum-below : (f g : X → ℕ) (l : List X) → ((i : ℕ) (v : X) → get_elem? l i ≡ some v → f v ≤ g v) → sum_by f l ≤ sum_by g l
   sum-below f g [] h = omega arith
-  sum-below f g (x ∷ xs) h = let r = sum-below f g xs (λ i v e. h (suc i) v e) in let here = h zero x refl in let a = sum_by-cons f x xs in let b = sum_by-cons g x xs in omega arith
+  sum-below f g (x ∷ xs) h =
+      let r = sum-below f g xs (λ i v e. h (suc i) v e) in
+      let here = h zero x refl in
+      let a = sum_by-cons f x xs in
+      let b = sum_by-cons g x xs in omega arith
 
   -- where f is at most g everywhere, what g leaves beside one view bounds what f leaves there
   pub sum-beside : (f g : X → ℕ) (l : List X) → ((i : ℕ) (v : X) → get_elem? l i ≡ some v → f v ≤ g v) → (i : ℕ) (v : X) → get_elem? l i ≡ some v → sum_by f l + g v ≤ sum_by g l + f v
   sum-beside f g [] h i v at = absurd (some-ne-none v (sym at))
-  sum-beside f g (x ∷ xs) h zero v at = let r = sum-below f g xs (λ i v e. h (suc i) v e) in let a = sum_by-cons f x xs in let b = sum_by-cons g x xs in
-      let same_f : f x ≡ f v = ap f (some-injective x v at) in let same_g : g x ≡ g v = ap g (some-injective x v at) in omega arith
-  sum-beside f g (x ∷ xs) h (suc i) v at = let r = sum-beside f g xs (λ i v e. h (suc i) v e) i v at in let here = h zero x refl in let a = sum_by-cons f x xs in let b = sum_by-cons g x xs in omega arith
+  sum-beside f g (x ∷ xs) h zero v at =
+      let r = sum-below f g xs (λ i v e. h (suc i) v e) in
+      let a = sum_by-cons f x xs in
+      let b = sum_by-cons g x xs in
+      let same_f : f x ≡ f v = ap f (some-injective x v at) in
+      let same_g : g x ≡ g v = ap g (some-injective x v at) in omega arith
+  sum-beside f g (x ∷ xs) h (suc i) v at =
+      let r = sum-beside f g xs (λ i v e. h (suc i) v e) i v at in
+      let here = h zero x refl in
+      let a = sum_by-cons f x xs in
+      let b = sum_by-cons g x xs in omega arith
 
   pub all_same : (n j : ℕ) (a : X) → get_or (replicate n a) j a ≡ a
   all_same zero j a = refl
@@ -57,7 +77,11 @@ sum_of_zeros (suc n) = let r = sum_of_zeros n in let a = sum_by-cons (λ (x : �
 pub sum-added : (xs ys : List ℕ) → sum (counts_added xs ys) ≡ sum xs + sum ys
 sum-added [] ys = omega arith
 sum-added (x ∷ xs) [] = omega arith
-sum-added (x ∷ xs) (y ∷ ys) = let r = sum-added xs ys in let a = sum_by-cons (λ (x : ℕ). x) x xs in let b = sum_by-cons (λ (x : ℕ). x) y ys in let c = sum_by-cons (λ (x : ℕ). x) (x + y) (counts_added xs ys) in omega arith
+sum-added (x ∷ xs) (y ∷ ys) =
+    let r = sum-added xs ys in
+    let a = sum_by-cons (λ (x : ℕ). x) x xs in
+    let b = sum_by-cons (λ (x : ℕ). x) y ys in
+    let c = sum_by-cons (λ (x : ℕ). x) (x + y) (counts_added xs ys) in omega arith
 
 pub bit-or-le : (a b : Bool) → bit (a || b) ≤ bit a + bit b
 bit-or-le true b = omega arith

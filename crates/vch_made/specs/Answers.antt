@@ -24,17 +24,19 @@ ReleaseGives old slot rel.Released new =
 ReleaseGives old slot (rel.Raced now) new =
     (met_at slot new ≢ own_at slot old) × (now ≡ met_at slot new) × (new.own ≡ old.own) × (new.dead ≡ old.dead) × (new.freed ≡ old.freed)
 
--- counts are added slot by slot, and sets united
+-- two lists, place by place
+abbrev pub slot_by_slot : {A : Type 0} → (A → A → A) → List A → List A → List A
+slot_by_slot f [] ys = ys
+slot_by_slot f (x ∷ xs) [] = x ∷ xs
+slot_by_slot f (x ∷ xs) (y ∷ ys) = f x y ∷ slot_by_slot f xs ys
+
 abbrev pub counts_added : List ℕ → List ℕ → List ℕ
-counts_added [] ys = ys
-counts_added (x ∷ xs) [] = x ∷ xs
-counts_added (x ∷ xs) (y ∷ ys) = (x + y) ∷ counts_added xs ys
+counts_added = slot_by_slot (λ (x : ℕ) (y : ℕ). x + y)
 
 abbrev pub marks_united : List Bool → List Bool → List Bool
-marks_united [] ys = ys
-marks_united (x ∷ xs) [] = x ∷ xs
-marks_united (x ∷ xs) (y ∷ ys) = (x || y) ∷ marks_united xs ys
+marks_united = slot_by_slot (λ (x : Bool) (y : Bool). x || y)
 
+-- what two seats have together; the steps are those of the first
 abbrev pub seat_of_both : Seated → Seated → Seated
 seat_of_both s t = record s {
   own = counts_added s.own t.own;

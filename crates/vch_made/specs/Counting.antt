@@ -37,6 +37,7 @@ pub record OutOfUse (views : List View) (slot word : ℕ) : Type 0 where
   pub tried : word ≤ released_mark + sum_by tries_of views
   pub freed : sum_by (freed_by slot) views ≡ 1
 
+-- below the mark the slot is in use, from the mark on it is released
 pub record IsSlotWord (views : List View) (slot word : ℕ) : Type 0 where
   pub below : word < released_mark → InUse views slot word
   pub above : released_mark ≤ word → OutOfUse views slot word
@@ -46,6 +47,7 @@ pub record IsFair (v : View) : Type 0 where
   pub made : sum v.own ≤ v.tries
   pub freed : (slot : ℕ) → freed_by slot v ≤ v.tries
 
+-- the rule: the word of each slot, what each seat may hold, and that all rooms and makes are within what the row was opened with
 pub record CountsKept (terms : Terms) (words : List ℕ) (views : List View) : Type 0 where
   pub size : length words ≡ terms.slots
   pub slots : (slot : ℕ) → slot < terms.slots → IsSlotWord views slot (slice_index words slot)

@@ -16,6 +16,7 @@ pub record IsWide (v : View) : Type 0 where
   pub steps_wide : length v.steps ≡ length v.own
   pub met_wide : length v.met ≡ length v.own
 
+-- what a seat keeps is what its view says, within the bound
 pub record SeatFits (me : Me (Unit {0}) View) (own : List ℕ) (dead : List Bool) (room tries : ℕ) : Type 0 where
   pub carries : me.1 ≡ []
   pub own_is : own ≡ me.0.own
@@ -26,6 +27,7 @@ pub record SeatFits (me : Me (Unit {0}) View) (own : List ℕ) (dead : List Bool
   pub bound : me.0.makes < most_makes
   pub wide : IsWide me.0
 
+-- the table has a word for each slot, and was opened with these numbers
 pub record RowFits (table : TableId) (key : Terms) (slots makes : ℕ) : Type 0 where
   pub words_are : table.words ≡ slots
   pub slots_are : key.slots ≡ slots
