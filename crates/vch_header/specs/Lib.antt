@@ -1,0 +1,4 @@
+pub mod Dispositions
+pub mod Fields
+pub mod Headers
+pub mod Carrying
