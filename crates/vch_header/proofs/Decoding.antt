@@ -5,7 +5,7 @@ use Rattle.std.proofs.lemmas.Bool.{cases_lt}
 use Rattle.std.proofs.lemmas.List.{length-take-le, get_or-take, length-take}
 use Rattle.vch_recipe.proofs.FourBytes.{AreBytes}
 use Rattle.vch_header.specs.Dispositions.{IsKnown, disposition_of, voucher_bits}
-use Rattle.vch_header.specs.Fields.{Fields, spelling}
+use Rattle.vch_header.specs.Fields.{Fields}
 use Rattle.vch_header.specs.Headers.{IsHeader, Begins, HasUnknown, made_by, made, fields_in, decoded}
 use Rattle.vch_header.specs.declared.disposition.Disposition.{Disposition}
 use Rattle.vch_header.specs.declared.fault.HeaderFault.{HeaderFault}
@@ -20,9 +20,14 @@ known_some n k e = grind (arith, common_steps)
 pub some_known : (n : ℕ) (d : Disposition) → disposition_of n ≡ Some d → IsKnown n
 some_known n d e = grind (arith, common_steps)
 
-by_ok : (f h : Fields) (o : Option Disposition) → made_by f o ≡ Ok h → (f ≡ h) × (o ≡ None → ⊥)
-by_ok f h (Some d) e = (cc, λ none. cc)
+by_ok : (f h : Fields) (o : Option Disposition) → made_by f o ≡ Ok h → (f ≡ h) × (d : Disposition) × (o ≡ Some d)
+by_ok f h (Some d) e = (cc, d, refl)
 by_ok f h None e = absurd (cc)
+
+pub made_ok : (f h : Fields) → made f ≡ Ok h → (f ≡ h) × IsKnown (voucher_bits h.bits)
+made_ok f h e =
+    let b = by_ok f h (disposition_of (voucher_bits f.bits)) e in
+    (b.0, subst (λ (x : Fields). IsKnown (voucher_bits x.bits)) b.0 (some_known (voucher_bits f.bits) b.1 b.2))
 
 by_fault : (f : Fields) (n : ℕ) (o : Option Disposition) → made_by f o ≡ Err (faults.Disposition n) → (o ≡ None) × (n ≡ voucher_bits f.bits)
 by_fault f n (Some d) e = absurd (cc)
@@ -76,11 +81,14 @@ decoded_long bytes ge = let t : nat_lt (length bytes) 24 ≡ false = grind (arit
 
 -- ---- the answers
 
-pub found : (bytes : List ℕ) (r : Result Fields HeaderFault) → AreBytes bytes → r ≡ decoded bytes → IfOk r (λ h. Begins bytes h)
+pub found : (bytes : List ℕ) (r : Result Fields HeaderFault) → AreBytes bytes → r ≡ decoded bytes → IfOk r (λ h. IsHeader h × Begins bytes h)
 found bytes (Ok h) small e =
     elim (cases_lt (length bytes) 24) [
       | inl lt ↦ absurd (let s = decoded_short bytes lt in cc)
-      | inr ge ↦ subst (λ f. Begins bytes f) (by_ok (fields_in (take 24 bytes)) h (disposition_of (voucher_bits (fields_in (take 24 bytes)).bits)) (sym (e ∙ decoded_long bytes ge))).0 (begins_in bytes ge small)
+      | inr ge ↦
+          let m = made_ok (fields_in (take 24 bytes)) h (sym (e ∙ decoded_long bytes ge)) in
+          let b : Begins bytes h = subst (λ f. Begins bytes f) m.0 (begins_in bytes ge small) in
+          (record { fits = b.fits; known = m.1 }, b)
     ]
 found bytes (Err fault) small e = tt
 
@@ -115,6 +123,7 @@ disposition bytes r small e n = (to, back)
                 unknown = λ k. none_unknown (voucher_bits (fields_in (take 24 bytes)).bits) b.0 (subst IsKnown b.1 k);
               }
         ]
+
     back : HasUnknown bytes n → r ≡ Err (faults.Disposition n)
     back u =
         e ∙ decoded_long bytes (begins_long bytes u.fields u.begins) ∙ ap made (fields_are bytes u.fields u.begins)

@@ -1,5 +1,5 @@
 -- What a header carries, and the header of a `send`.
-use Rattle.std.specs.Prelude.{ℕ, ◌==◌, if◌then◌else◌}
+use Rattle.std.specs.Prelude.{◌==◌, if◌then◌else◌}
 use Rattle.vch_header.specs.Dispositions.{move_send, voucher_bits}
 use Rattle.vch_header.specs.Fields.{Fields}
 use Rattle.vch_header.specs.declared.carried.Carried.{Carried}

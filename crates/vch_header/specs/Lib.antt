@@ -2,3 +2,5 @@ pub mod Dispositions
 pub mod Fields
 pub mod Headers
 pub mod Carrying
+pub mod Messages
+pub mod Translating

@@ -40,7 +40,7 @@ fn decode_first(bytes: &[u8]) -> Result<Header, HeaderFault>
 /// bytes spell a disposition of the voucher port that is none of 0, 17 and 19, and has that number. It takes no memory.
 pub fn decode(bytes: &[u8]) -> Result<Header, HeaderFault>
     // The header that is answered is spelled by the bytes, and one that they spell is answered.
-    ensures found { IfOk result (λ h. Begins bytes.now h) }
+    ensures found { IfOk result (λ h. IsHeader h × Begins bytes.now h) }
     ensures only { (h : Fields) → IsHeader h → Begins bytes.now h → result ≡ Ok h }
 
     ensures short { (have : ℕ) → (result ≡ Err (HeaderFault.Short have)) ↔

@@ -26,6 +26,11 @@ mod carried;
 mod disposition;
 mod fault;
 mod header;
+mod laws;
+mod message;
+#[cfg(test)]
+mod tests;
+mod translation;
 
 pub use bytes::{HEADER_BYTES, decode, encode};
 pub use carried::{Carried, of_send, sending};
@@ -34,3 +39,5 @@ pub use disposition::{
 };
 pub use fault::{HeaderFault, MessageFault, TranslationFault};
 pub use header::Header;
+pub use laws::{one_header, one_translation, sent_again, spellings};
+pub use translation::translate;
