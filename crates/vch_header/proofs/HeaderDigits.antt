@@ -1,10 +1,12 @@
 -- The header that digits spell.
-use Rattle.std.proofs.Common.{◌≡◌, ◌↔◌, ◌<◌, ℕ, List, length, Result, Ok, Err, IsOk, refl, sym, ap, ◌∙◌, arith, subst}
+use Rattle.vch_header.proofs.Decoding.{some_known, known_some, begins_in}
+use Rattle.vch_header.specs.declared.disposition.Disposition.{Disposition}
+use Rattle.std.proofs.Common.{◌≡◌, ◌↔◌, ◌<◌, ℕ, List, length, Result, Ok, Err, IsOk, refl, sym, ap, ◌∙◌, arith, subst, ◌⊎◌, Option, Some, None, inl, inr, take}
 use Rattle.std.proofs.lemmas.List.{take_all}
 use Rattle.hex.specs.Hex.{decode_of, decode_sized}
 use Rattle.hex.specs.declared.error.FromHexError.{FromHexError}
 use Rattle.hex.proofs.HexLemmas.{decode_of-ok, decode_of-same, decode_sized-ok, decode_sized-twice, IsOk-decode_sized}
-use Rattle.vch_header.specs.Dispositions.{IsKnown, voucher_bits}
+use Rattle.vch_header.specs.Dispositions.{IsKnown, voucher_bits, disposition_of}
 use Rattle.vch_header.specs.Fields.{Fields, Fits, spelling}
 use Rattle.vch_header.specs.Headers.{IsHeader, Begins, HasUnknown, fields_in}
 use Rattle.vch_header.specs.Messages.{AreDigits, SpellsHeader, SpellsUnknown, HasFault}
@@ -71,3 +73,24 @@ one_fault digits faults.Form faults.Form f g = refl
 one_fault digits faults.Form faults.Disposition f g = absurd (f (are_digits digits g.fields g.bytes))
 one_fault digits faults.Disposition faults.Form f g = absurd (g (are_digits digits f.fields f.bytes))
 one_fault digits faults.Disposition faults.Disposition f g = refl
+
+-- ---- digits spell a header or have a fault
+
+abbrev pub DigitsAnswer : List ℕ → Type 0
+DigitsAnswer digits = ((h : Fields) × SpellsHeader digits h) ⊎ ((why : MessageFault) × HasFault digits why)
+
+by_disposition : (digits : List ℕ) (f : Fields) → Fits f → decode_of digits ≡ Ok (spelling f) → (o : Option Disposition) → disposition_of (voucher_bits f.bits) ≡ o → DigitsAnswer digits
+by_disposition digits f fits e (Some d) o = inl (f, record { header = record { fits = fits; known = some_known (voucher_bits f.bits) d o }; bytes = e })
+by_disposition digits f fits e None o = inr (faults.Disposition, record { fields = f; fits = fits; bytes = e; unknown = λ k. known_some (voucher_bits f.bits) k o })
+
+by_bytes : (digits : List ℕ) (r : Result (List ℕ) FromHexError) → decode_sized digits 24 ≡ r → DigitsAnswer digits
+by_bytes digits (Err fault) e = inr (faults.Form, form_refused digits (Err fault) fault (sym e) refl)
+by_bytes digits (Ok bytes) e =
+    let d = decode_of-ok digits bytes (sym (decode_sized-twice digits 24 (decode_sized-ok digits 24 bytes e)) ∙ e) in
+    let long = bytes_long digits bytes e in
+    let f : Fields = fields_in (take 24 bytes) in
+    let b = begins_in bytes (omega arith) d.3 in
+    by_disposition digits f b.fits (spelled_digits digits bytes f e b) (disposition_of (voucher_bits f.bits)) refl
+
+pub digits_answer : (digits : List ℕ) → DigitsAnswer digits
+digits_answer digits = by_bytes digits (decode_sized digits 24) refl

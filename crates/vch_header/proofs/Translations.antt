@@ -1,12 +1,14 @@
 -- A text has one translation, or one first line that can't be translated.
-use Rattle.std.proofs.Common.{◌≡◌, ◌+◌, ℕ, List, [], ◌∷◌, refl, sym, ap, ◌∙◌, inl, inr, subst}
+use Rattle.vch_header.specs.Translating.{message_of}
+use Rattle.vch_text.proofs.Told.{Told}
+use Rattle.std.proofs.Common.{◌≡◌, ◌+◌, ℕ, List, [], ◌∷◌, refl, sym, ap, ◌∙◌, inl, inr, subst, Option, Some, None, ◌⊎◌}
 use Rattle.vch_model.specs.TextLines.{split_of}
 use Rattle.vch_text.specs.Words.{joined}
 use Rattle.vch_header.specs.Fields.{Fields}
 use Rattle.vch_header.specs.Carrying.{carried_by}
-use Rattle.vch_header.specs.Messages.{SpellsHeader, HasFault, send_text, IsSend, Becomes, IsRefused, Become, IsTranslation, FirstRefused, IsRefusedAt}
+use Rattle.vch_header.specs.Messages.{SpellsHeader, HasFault, send_text, IsSend, Becomes, IsRefused, Become, IsTranslation, FirstRefused, IsRefusedAt, IsMessage}
 use Rattle.vch_header.specs.declared.fault.MessageFault.{MessageFault}
-use Rattle.vch_header.proofs.MessageWords.{one_message}
+use Rattle.vch_header.proofs.MessageWords.{one_message, message_told, none_other}
 use Rattle.vch_header.proofs.HeaderDigits as digits
 
 -- ---- one line
@@ -67,3 +69,38 @@ apart text out line why p r = lines_apart 1 (split_of text).0 p.lines line why p
 
 pub one_fault : (text : List ℕ) (m n : ℕ) (a b : MessageFault) → IsRefusedAt text m a → IsRefusedAt text n b → (m ≡ n) × (a ≡ b)
 one_fault text m n a b p q = one_refused 1 (split_of text).0 m n a b p q
+
+-- ---- a text has a translation or a first line that can't be translated
+
+abbrev LineAnswer : List ℕ → Type 0
+LineAnswer line = ((out : List ℕ) × Becomes line out) ⊎ ((why : MessageFault) × IsRefused line why)
+
+by_digits : (line task word : List ℕ) → IsMessage line task word → digits.DigitsAnswer word → LineAnswer line
+by_digits line task word m (inl s) = inl (send_text task (carried_by s.0), inr (record { task = task; digits = word; fields = s.0; message = m; spelled = s.1; text = refl }))
+by_digits line task word m (inr f) = inr (f.0, record { task = task; digits = word; message = m; fault = f.1 })
+
+by_words : (line : List ℕ) (o : Option (List ℕ × List ℕ)) → message_of line ≡ o → LineAnswer line
+by_words line None e = inl (line, inl (none_other line e, refl))
+by_words line (Some m) e = by_digits line m.0 m.1 (subst (Told (λ w. IsMessage line w.0 w.1)) e (message_told line)) (digits.digits_answer m.1)
+
+abbrev LinesAnswer : ℕ → List (List ℕ) → Type 0
+LinesAnswer n lines = ((outs : List (List ℕ)) × Become lines outs) ⊎ ((at : ℕ) × (why : MessageFault) × FirstRefused n lines at why)
+
+one_more : (n : ℕ) (line : List ℕ) (lines : List (List ℕ)) → LineAnswer line → LinesAnswer (n + 1) lines → LinesAnswer n (line ∷ lines)
+one_more n line lines (inl p) (inl q) = inl (p.0 ∷ q.0, (p.1, q.1))
+one_more n line lines (inl p) (inr q) = inr (q.0, q.1, inr (p.0, p.1, q.2))
+one_more n line lines (inr r) q = inr (n, r.0, inl (r.1, refl))
+
+lines_answer : (n : ℕ) (lines : List (List ℕ)) → LinesAnswer n lines
+lines_answer n [] = inl ([], tt)
+lines_answer n (line ∷ lines) = one_more n line lines (by_words line (message_of line) refl) (lines_answer (n + 1) lines)
+
+abbrev pub TextAnswer : List ℕ → Type 0
+TextAnswer text = ((out : List ℕ) × IsTranslation text out) ⊎ ((line : ℕ) × (why : MessageFault) × IsRefusedAt text line why)
+
+by_lines : (text : List ℕ) → LinesAnswer 1 (split_of text).0 → TextAnswer text
+by_lines text (inl p) = inl (joined (p.0, (split_of text).1), record { lines = p.0; each = p.1; whole = refl })
+by_lines text (inr r) = inr r
+
+pub text_answer : (text : List ℕ) → TextAnswer text
+text_answer text = by_lines text (lines_answer 1 (split_of text).0)

@@ -1,4 +1,4 @@
-ghost use Rattle.std.specs.Prelude.{◌≡◌, ◌++◌, [], ℕ, List, take};
+ghost use Rattle.std.specs.Prelude.{◌≡◌, ◌⊎◌, ◌++◌, [], ℕ, List, take};
 ghost use Rattle.vch_header.specs.Dispositions.{voucher_bits, IsKnown};
 ghost use Rattle.vch_header.specs.Fields.{Fields, Fits, spelling};
 ghost use Rattle.vch_header.specs.Headers.{Begins};
@@ -29,6 +29,8 @@ pub fn sent_again()
 
 /// A text has one translation or one first fault, and never both.
 pub fn one_translation()
+    ensures some { (text : List ℕ) → ((out : List ℕ) × IsTranslation text out) ⊎
+        ((line : ℕ) × (why : MessageFault) × IsRefusedAt text line why) }
     ensures one { (text a b : List ℕ) → IsTranslation text a → IsTranslation text b → a ≡ b }
     ensures apart { (text out : List ℕ) (line : ℕ) (why : MessageFault) →
         IsTranslation text out → IsRefusedAt text line why → ⊥ }

@@ -9,6 +9,7 @@ use Rattle.vch_recipe.proofs.Outcomes.{one_outcome}
 use Rattle.vch_model.specs.declared.lists.Scenario.{Scenario}
 use Rattle.vch_model.specs.Scenarios.{IsScenario}
 use Rattle.vch_model.specs.UserOnly.{IsUserOnly}
+use Rattle.vch_header.proofs.Translations as translations
 use Rattle.vch_scenario.proofs.OneAnswer.{never_both, one_scenario}
 use Rattle.vch_replay.specs.declared.command.Command.{Command}
 use Rattle.vch_replay.specs.declared.command.Command.TheVariants as commands
@@ -39,3 +40,4 @@ apart commands.Check line input is refused = scenario_apart input line is.0 is.1
 apart commands.Play line input is refused = play_apart input line is.0 is.1 is.2 refused
 apart (commands.PlaySeed seed) line input is refused = play_apart input line is.0 is.1 is.2 refused
 apart commands.Recipe line input is refused = array_apart input is.0 refused.0 is.1 refused.1
+apart commands.Header line input is refused = translations.apart input is.0 refused.0 refused.1 is.1 refused.2

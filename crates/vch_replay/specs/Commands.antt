@@ -2,7 +2,7 @@
 use Rattle.std.specs.Prelude.{ℕ, ◌^◌, if◌then◌else◌, List, [], ◌∷◌, Option, Some, None, codes}
 use Rattle.vch_base.specs.Values.{equal_lists}
 use Rattle.vch_replay.specs.declared.command.Command.{Command}
-use Rattle.vch_replay.specs.declared.command.Command.TheVariants.{Check, Play, PlaySeed, Recipe}
+use Rattle.vch_replay.specs.declared.command.Command.TheVariants.{Check, Play, PlaySeed, Recipe, Header}
 use Rattle.vch_report.specs.Numerals.{below}
 
 unfoldable pub command_in : List ℕ → Option Command
@@ -10,6 +10,7 @@ command_in word =
     if equal_lists word (codes "check") then Some Check
     else if equal_lists word (codes "play") then Some Play
     else if equal_lists word (codes "recipe") then Some Recipe
+    else if equal_lists word (codes "header") then Some Header
     else None
 
 -- a run by a seed

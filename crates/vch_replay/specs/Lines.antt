@@ -4,6 +4,8 @@ use Rattle.std.specs.List.{flat_map}
 use Rattle.vch_recipe.specs.declared.recipe.Recipe.{Recipe}
 use Rattle.vch_recipe.specs.declared.fault.RecipeFault.{RecipeFault}
 use Rattle.vch_recipe.specs.declared.fault.RecipeFault.TheVariants as recipe_faults
+use Rattle.vch_header.specs.declared.fault.MessageFault.{MessageFault}
+use Rattle.vch_header.specs.declared.fault.MessageFault.TheVariants as message_faults
 use Rattle.vch_scenario.specs.declared.fault.Why.{Why}
 use Rattle.vch_scenario.specs.declared.fault.Why.TheVariants as whys
 use Rattle.vch_model.specs.Text.{spaced, newline, hex_of}
@@ -24,6 +26,14 @@ why_text whys.Ending = codes "ending"
 -- the first fault of a scenario's text
 abbrev pub scenario_fault : ℕ → Why → List ℕ
 scenario_fault line why = codes "fault line" ++ spaced line ++ codes " why " ++ why_text why ++ newline
+
+abbrev pub message_why : MessageFault → List ℕ
+message_why message_faults.Form = codes "form"
+message_why message_faults.Disposition = codes "disposition"
+
+-- the first message line that can't be translated
+abbrev pub message_fault : ℕ → MessageFault → List ℕ
+message_fault line why = codes "fault line" ++ spaced line ++ codes " why " ++ message_why why ++ newline
 
 -- a scenario that can't be run yet
 abbrev pub not_built : List ℕ

@@ -15,10 +15,12 @@ use Rattle.vch_model.specs.Legal.{Whole}
 use Rattle.vch_machine.specs.PlainRuns.{TellNoWant, IsPlainRun}
 use Rattle.vch_machine.specs.EndedRuns.{IsInTurn, IsBySeed}
 use Rattle.vch_model.specs.Text.{Text}
+use Rattle.vch_header.specs.Messages.{IsTranslation, IsRefusedAt}
+use Rattle.vch_header.specs.declared.fault.MessageFault.{MessageFault}
 use Rattle.vch_scenario.specs.Faults as scenario_faults
 use Rattle.vch_scenario.specs.declared.fault.Why.{Why}
 use Rattle.vch_replay.specs.Input.{limit}
-use Rattle.vch_replay.specs.Lines.{recipe_text, scenario_fault, not_built, recipe_fault}
+use Rattle.vch_replay.specs.Lines.{recipe_text, scenario_fault, message_fault, not_built, recipe_fault}
 use Rattle.vch_replay.specs.declared.command.Command.{Command}
 use Rattle.vch_replay.specs.declared.command.Command.TheVariants as commands
 use Rattle.vch_replay.specs.declared.outcome.Outcome.{Outcome}
@@ -73,6 +75,7 @@ Answers commands.Check input text = IsCanonical input text
 Answers commands.Play input text = IsReport None input text
 Answers (commands.PlaySeed seed) input text = IsReport (Some seed) input text
 Answers commands.Recipe input text = IsListing input text
+Answers commands.Header input text = IsTranslation input text
 
 -- the line tells the first fault of the scenario's text
 abbrev pub IsScenarioFault : List ℕ → List ℕ → Type 0
@@ -92,12 +95,17 @@ IsArrayFault input (recipe_faults.NoMemory cause) = ⊥
 abbrev pub IsRecipeFault : List ℕ → List ℕ → Type 0
 IsRecipeFault input line = (fault : RecipeFault) × IsArrayFault input fault × (recipe_fault fault ≡ Some line)
 
+-- the line tells the first message line that can't be translated
+abbrev pub IsMessageFault : List ℕ → List ℕ → Type 0
+IsMessageFault input line = (at : ℕ) × (why : MessageFault) × IsRefusedAt input at why × (line ≡ message_fault at why)
+
 -- the line that a command writes where the input is not in its grammar
 abbrev pub Refuses : Command → List ℕ → List ℕ → Type 0
 Refuses commands.Check input line = IsScenarioFault input line
 Refuses commands.Play input line = IsScenarioFault input line ⊎ IsNotBuilt input line
 Refuses (commands.PlaySeed seed) input line = IsScenarioFault input line ⊎ IsNotBuilt input line
 Refuses commands.Recipe input line = IsRecipeFault input line
+Refuses commands.Header input line = IsMessageFault input line
 
 -- what a command comes to
 abbrev pub Comes : Command → List ℕ → Outcome → Type 0
@@ -110,6 +118,7 @@ IsIn commands.Check input = (sc : Scenario) × IsScenario input sc
 IsIn commands.Play input = (sc : Scenario) × IsScenario input sc × IsUserOnly sc
 IsIn (commands.PlaySeed seed) input = (sc : Scenario) × IsScenario input sc × IsUserOnly sc
 IsIn commands.Recipe input = (records : List Recipe) × IsArray input records
+IsIn commands.Header input = (text : List ℕ) × IsTranslation input text
 
 -- the answer to the input was written, whole
 abbrev pub WritesAnswer : Option Command → List ℕ → Option (List ℕ) → Option (List ℕ) → Type 0

@@ -15,6 +15,8 @@ pub enum Command {
     PlaySeed { seed: u64 },
     /// One line for each record of a recipe array.
     Recipe,
+    /// A text with a `send` in the place of each line that spells a message header.
+    Header,
 }
 
 /// The command of one word.
@@ -30,6 +32,9 @@ fn command_in(word: &str) -> Option<Command>
     }
     if word == "recipe" {
         return Some(Command::Recipe);
+    }
+    if word == "header" {
+        return Some(Command::Header);
     }
     None
 }

@@ -9,6 +9,7 @@
 mod check;
 mod command;
 mod fault;
+mod header;
 mod input;
 mod listing;
 mod outcome;

@@ -9,7 +9,7 @@ use crate::command::{Command, command_of};
 use crate::input::{InputFault, read_all};
 use crate::outcome::Outcome;
 use crate::output::write_all;
-use crate::{check, play, recipe};
+use crate::{check, header, play, recipe};
 use std::alloc::Global;
 use vch_base::{NoMemory, Sink, Source};
 
@@ -23,6 +23,7 @@ fn perform(alloc: Global, command: Command, input: &[u8]) -> Result<Outcome, NoM
         Command::Play => play::answer(alloc, input, None),
         Command::PlaySeed { seed } => play::answer(alloc, input, Some(seed)),
         Command::Recipe => recipe::answer(alloc, input),
+        Command::Header => header::answer(alloc, input),
     }
 }
 
@@ -35,14 +36,14 @@ fn out_of_memory(_cause: NoMemory) -> u8
 
 /// All that the program does, but for runs with workers. It always returns.
 ///
-/// The words are `check`, `play`, `play` with a seed, or `recipe`. The source is read to its end, or until 4,194,305 bytes were given; each read
+/// The words are `check`, `play`, `play` with a seed, `recipe`, or `header`. The source is read to its end, or until 4,194,305 bytes were given; each read
 /// asks for at least one byte, so at most 4,194,305 reads happen. The text is made whole before the first write.
 ///
 /// | status | when |
 /// |---|---|
 /// | 0 | done: the whole text was written |
 /// | 1 | the words are none of the forms |
-/// | 2 | the input is not in the grammar, or can't be run yet; one line says why |
+/// | 2 | the input is not in the grammar, can't be run yet, or has a header that is refused; one line says why |
 /// | 3 | the source failed |
 /// | 4 | the sink failed; a prefix of the text or of the line was written |
 /// | 5 | want of memory |

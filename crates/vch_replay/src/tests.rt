@@ -218,6 +218,64 @@ const CASES: &[Case] = &[
         status: 0,
         output: "end\n",
     },
+    // A line that spells a header becomes a `send`: copied, moved, or without a voucher.
+    Case {
+        words: &["header"],
+        input: b"1 message 130013001800000002000000000000000100000009000000\n",
+        status: 0,
+        output: "1 send 2 copy 1 9\n",
+    },
+    Case {
+        words: &["header"],
+        input: b"1 message 130011001800000002000000000000000100000009000000\n",
+        status: 0,
+        output: "1 send 2 move 1 9\n",
+    },
+    Case {
+        words: &["header"],
+        input: b"1 message 130000001800000002000000000000000100000009000000\n",
+        status: 0,
+        output: "1 send 2 copy 0 9\n",
+    },
+    // Another disposition is refused, and so are fewer digits; the first such line is told.
+    Case {
+        words: &["header"],
+        input: b"1 message 130012001800000002000000000000000100000009000000\n",
+        status: 2,
+        output: "fault line 1 why disposition\n",
+    },
+    Case {
+        words: &["header"],
+        input: b"1 message 1300\n",
+        status: 2,
+        output: "fault line 1 why form\n",
+    },
+    Case {
+        words: &["header"],
+        input: b"1 message 130013001800000002000000000000000100000009000000\n1 message 130013001800000002000000000000000100000009000000\r\n1 message 00\n",
+        status: 2,
+        output: "fault line 2 why form\n",
+    },
+    // All other lines stay, whatever they are, and so does a rest without a line feed.
+    Case {
+        words: &["header"],
+        input: b"#1 message 130013001800000002000000000000000100000009000000\n1  message 130013001800000002000000000000000100000009000000\n1 message 130013001800000002000000000000000100000009000000 \n1 message \n\n1 message 130013001800000002000000000000000100000009000000",
+        status: 0,
+        output: "#1 message 130013001800000002000000000000000100000009000000\n1  message 130013001800000002000000000000000100000009000000\n1 message 130013001800000002000000000000000100000009000000 \n1 message \n\n1 message 130013001800000002000000000000000100000009000000",
+    },
+    // In a whole scenario.
+    Case {
+        words: &["header"],
+        input: b"vouch 1\ntasks 2\ntask 1 donor\ntask 2 receiver\nphase\n1 create 0300000062020000000000000000000002000000c8000000000000000000000007000000d300000000000000020000006162\n1 message 130013001800000002000000000000000100000009000000\n1 drop 1\n2 recv\n2 charge 1 1200\n2 assertions\n2 drop 1\nphase\n1 ledger\nend\n",
+        status: 0,
+        output: "vouch 1\ntasks 2\ntask 1 donor\ntask 2 receiver\nphase\n1 create 0300000062020000000000000000000002000000c8000000000000000000000007000000d300000000000000020000006162\n1 send 2 copy 1 9\n1 drop 1\n2 recv\n2 charge 1 1200\n2 assertions\n2 drop 1\nphase\n1 ledger\nend\n",
+    },
+    Case {
+        words: &["header", "1"],
+        input: b"",
+        status: 1,
+        output: "",
+    },
     Case {
         words: &["play", "18446744073709551615"],
         input: STORE,
