@@ -5,7 +5,7 @@ ghost use Rattle.vch_core.specs.Runs.{EndsBySeed};
 ghost use Rattle.vch_core.specs.Turning.{AreReady, CanGo, Draws, IsDraw};
 
 use crate::ends::MOST_MOVES;
-use crate::turn::{go, lowest_frame};
+use crate::turn::go;
 use arrayvec::ArrayVec;
 use vch_state::Core;
 

@@ -19,6 +19,7 @@ pub mod AskFacts
 pub mod MadeLive
 pub mod FreshLive
 pub mod MakeGives
+pub mod Codes
 pub mod MakeCalls
 pub mod Receives
 pub mod MakeEvent

@@ -41,6 +41,7 @@ use Rattle.vch_state.specs.Plain.{frame_of, begun_of}
 use Rattle.vch_state.specs.Reached.{plain_of, parts_in, IsNext, Reached, Stands, value_kind}
 use Rattle.vch_state.proofs.Records.{record_inside}
 use Rattle.vch_create.specs.declared.question.Question.{Question}
+use Rattle.vch_create.proofs.Codes.{own_refusal}
 use Rattle.vch_create.specs.Makes.{Answers, HasRoom, IsAsked, IsMadeEntry, IsQuestion, receipts_in}
 use Rattle.vch_create.proofs.MakeNext.{asking, makes_seen}
 use Rattle.vch_create.proofs.AskFacts.{flights_are, flights_few, handles_few, made_few, previous_there, previous_is_live, long_is, reply, reply_is, asked_is}
@@ -126,7 +127,7 @@ module _ (p : Parts) (t : ℕ) (task : is_task p.scenario t ≡ true) (next : Is
         → (e2.slots ≡ p.user_entries.slots) × (p.user_entries.spare ≤ e2.spare)
         → ((x : Picture) → length x.receipts ≡ flying → picture.Stands x p.user_entries p.user → picture.Stands (got_picture (got_of result) x) e2 kept2)
         → Answers t result p (record p { user_entries = e2; user = kept2 })
-    ask_answers content read flying tasks count all rules result e2 kept2 makes places stands = record { others = refl; slots = places.0; places = places.1; gives = gives }
+    ask_answers content read flying tasks count all rules result e2 kept2 makes places stands = record { others = refl; slots = places.0; places = places.1; own = own_refusal p.user kept2 t q.command _ content result makes; gives = gives }
       where
         gives : (m : Machine) → Stands p m → (reply : Result (Option Value) ℤ) × IsAsked p m t reply × value_calls.Makes p.user reply result kept2 × picture.Stands (got_picture (got_of result) (picture_of keys.User (plain_of p) m)) e2 kept2
         gives m st = asking p t task next idle _ reached (λ f v bytes r rest z. makes_seen p t task next idle m _ st f v bytes r rest z (λ g w y.

@@ -1,11 +1,13 @@
 -- A record that asks the manager of user data: what it asks, what the manager answers, and the room that is made before.
-use Rattle.std.specs.Prelude.{◌≡◌, ℕ, ◌+◌, ◌<◌, ◌≤◌, ◌==◌, if◌then◌else◌, false, List, length, drop, Option, Some, None, Result, Ok, ℤ}
+use Rattle.std.specs.Prelude.{◌≡◌, ℕ, ◌+◌, ◌<◌, ◌≤◌, ◌==◌, if◌then◌else◌, false, List, length, drop, Option, Some, None, Result, Ok, Err, ℤ}
 use Rattle.std.specs.List.{flat_map}
 use Rattle.vch_base.specs.declared.key.Key.{Key}
 use Rattle.vch_base.specs.declared.key.Key.TheVariants as keys
 use Rattle.vch_base.specs.declared.value.Value.{Value}
 use Rattle.vch_base.specs.declared.value.Value.TheVariants as values
+use Rattle.vch_base.specs.declared.codes.TheConstants.{KERN_INVALID_ARGUMENT}
 use Rattle.vch_base.specs.declared.manager.GetFault.{GetFault}
+use Rattle.vch_base.specs.declared.manager.GetFault.TheVariants as fault
 use Rattle.vch_recipe.specs.Recipes.{One, first_of}
 use Rattle.vch_recipe.specs.declared.recipe.Recipe.{Recipe}
 use Rattle.vch_value.specs.declared.flight.Made.{Made}
@@ -93,11 +95,17 @@ IsAsked p m t reply =
     (f : machine.Frame) (w : Handles) (call : Call) → (tasked m t).frame ≡ Some f → f.forming ≡ Some w → current p.scenario m t ≡ Some call
     → asked_by p.scenario m t f w call ≡ Some (record { key = keys.User; reply = reply })
 
+-- a manager refuses with the one code of its own
+abbrev pub IsOwnRefusal : Result Made GetFault → Type 0
+IsOwnRefusal (Err (fault.Refused code)) = code.number ≡ KERN_INVALID_ARGUMENT
+IsOwnRefusal result = Unit {0}
+
 -- the manager was asked what the record asks, and this is what it answered
 pub record Answers (t : ℕ) (result : Result Made GetFault) (old new : Parts) : Type 0 where
   pub others : new ≡ record old { user_entries = new.user_entries; user = new.user }
   pub slots : new.user_entries.slots ≡ old.user_entries.slots
   pub places : old.user_entries.spare ≤ new.user_entries.spare
+  pub own : IsOwnRefusal result
   pub gives : (m : Machine) → Stands old m → (reply : Result (Option Value) ℤ) × IsAsked old m t reply × value_calls.Makes old.user reply result new.user
       × picture.Stands (got_picture (got_of result) (picture_of keys.User (plain_of old) m)) new.user_entries new.user
 

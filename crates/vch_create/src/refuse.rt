@@ -5,7 +5,7 @@ ghost use Rattle.vch_state.specs.Plain.{frame_of};
 ghost use Rattle.vch_state.specs.Reached.{Reached, value_kind};
 ghost use Rattle.vch_state.specs.Shape.{index_of};
 ghost use Rattle.vch_create.specs.Formed.{is_forming, item, items};
-ghost use Rattle.vch_create.specs.Refusals.{IsRefusal};
+ghost use Rattle.vch_create.specs.Refusals.{IsOther, IsRefusal};
 
 use vch_base::codes::KERN_RESOURCE_SHORTAGE;
 use vch_base::{Code, Key, NoMemory};
@@ -71,6 +71,7 @@ fn end_with(parts: &mut Parts, task: u32, code: Code)
 /// A create that a frame is forming is refused. It takes constant time and no memory, since every call that is not answered
 /// has room for its entry.
 pub fn refuse(parts: &mut Parts, task: u32, code: Code)
+    requires other { IsOther code }
     requires reached { Reached parts.old }
     requires task { IsTrue (is_task parts.old.scenario task) }
     requires idle { value_kind (frame_of parts.old.frames task) ≡ None }

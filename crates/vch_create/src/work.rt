@@ -1,9 +1,10 @@
-ghost use Rattle.std.specs.Prelude.{◌≡◌, None, Some, Ok, IsTrue};
+ghost use Rattle.std.specs.Prelude.{◌≡◌, None, Some, Ok, IfErr, IsTrue};
 ghost use Rattle.vch_base.specs.declared.kind.Kind.TheVariants as kinds;
 ghost use Rattle.vch_model.specs.Lines.{is_task};
 ghost use Rattle.vch_state.specs.Plain.{frame_of};
 ghost use Rattle.vch_state.specs.Reached.{Reached, Follows, IsNext, value_kind};
 ghost use Rattle.vch_create.specs.Carried.{ReadsNext};
+ghost use Rattle.vch_create.specs.Refusals.{IsOther};
 
 use crate::change::change_map;
 use crate::record::{INVALID, Record, read_record};
@@ -18,7 +19,8 @@ fn read(parts: &Parts, task: u32) -> Result<Record, Code>
     requires task { IsTrue (is_task parts.now.scenario task) }
     requires next { IsNext parts.now task (Some kinds.Work) }
     requires idle { value_kind (frame_of parts.now.frames task) ≡ None }
-    ensures { ReadsNext parts.now task result }
+    ensures reads { ReadsNext parts.now task result }
+    ensures other { IfErr result (λ code. IsOther code) }
 {
     let working = parts.frames.at(task);
     let Some(frame) = &working.frame else {

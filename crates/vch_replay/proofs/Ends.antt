@@ -2,7 +2,8 @@
 use Rattle.std.proofs.Common.{◌≡◌, ◌≤◌, ℕ, List, ◌++◌, length, sym, ap, ◌∙◌, arith, subst, Option, Some, None, IfSome, inr, append-nil}
 use Rattle.std.specs.Io.KnownBytes.{Consumes, IsAtEnd}
 use Rattle.vch_replay.specs.declared.command.Command.{Command}
-use Rattle.vch_replay.specs.Input.{limit, GaveTooMuch, WritesPrefix}
+use Rattle.vch_replay.specs.Input.{limit, GaveTooMuch}
+use Rattle.vch_replay.specs.Output.{WritesPrefix}
 use Rattle.vch_replay.specs.Run.{IsIn, Refuses, WritesPart, IsGood}
 
 -- short input is not too long
@@ -22,7 +23,7 @@ pub part_refused : (command : Command) (left rest : Option (List ℕ)) (input li
 part_refused command None rest input line old new c e refused short p = tt
 part_refused command (Some all) None input line old new c e refused short p = absurd c
 part_refused command (Some all) (Some rest) input line old new c e refused short p =
-    subst (λ (x : List ℕ). WritesPart (Some command) x old new) (sym (all_read all input rest c e)) (line, p.0, inr refused, short, p.2)
+    subst (λ (x : List ℕ). WritesPart (Some command) x old new) (sym (all_read all input rest c e)) (line, inr refused, short, p)
 
 -- input in a command's grammar is not refused
 pub good_refused : (command : Command) (left rest : Option (List ℕ)) (input line : List ℕ) → Consumes left rest input → IsAtEnd rest → Refuses command input line

@@ -1,5 +1,5 @@
 -- No input is both in a command's grammar and refused by the command.
-use Rattle.std.proofs.Common.{◌≡◌, ◌≤◌, ◌<◌, ◌⊎◌, ℕ, List, length, Ok, Err, arith, subst, inl, inr}
+use Rattle.std.proofs.Common.{◌≤◌, ◌<◌, ◌⊎◌, ℕ, List, length, Ok, Err, arith, subst, inl, inr}
 use Rattle.vch_recipe.specs.declared.recipe.Recipe.{Recipe}
 use Rattle.vch_recipe.specs.declared.fault.RecipeFault.{RecipeFault}
 use Rattle.vch_recipe.specs.declared.fault.RecipeFault.TheVariants as recipe_faults

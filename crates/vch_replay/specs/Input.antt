@@ -1,6 +1,5 @@
--- What reading a source to its end and writing a text to a sink say.
-use Rattle.std.specs.Prelude.{◌+◌, ◌<◌, ◌≤◌, ℕ, List, length, take, Option, Some, None}
-use Rattle.vch_base.specs.Stream.{Appends}
+-- What reading a source to its end says.
+use Rattle.std.specs.Prelude.{◌+◌, ◌<◌, ◌≤◌, ℕ, List, length, Option, Some, None}
 
 -- the most bytes of input
 abbrev pub limit : ℕ
@@ -18,6 +17,8 @@ GaveAtMost most None new = Unit {0}
 GaveAtMost most (Some old) None = ⊥
 GaveAtMost most (Some old) (Some new) = length old ≤ length new + most
 
--- a prefix of the text was written, where it is told
-abbrev pub WritesPrefix : Option (List ℕ) → Option (List ℕ) → List ℕ → Type 0
-WritesPrefix old new text = (n : ℕ) × (n ≤ length text) × Appends old new (take n text)
+-- where what is left is told, there was at most one read more than bytes were given: each read but the last gave some
+abbrev pub EachReadGave : Option (List ℕ) → Option (List ℕ) → ℕ → ℕ → Type 0
+EachReadGave None new before after = Unit {0}
+EachReadGave (Some old) None before after = ⊥
+EachReadGave (Some old) (Some new) before after = after + length new ≤ before + length old + 1

@@ -1,4 +1,5 @@
 pub mod Input
+pub mod Output
 pub mod Commands
 pub mod Lines
 pub mod Run

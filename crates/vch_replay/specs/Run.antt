@@ -1,6 +1,6 @@
 -- What the top call promises.
-use Rattle.std.specs.Prelude.{◌≡◌, ◌≤◌, ◌<◌, ◌⊎◌, ℕ, List, length, take, reverse, Option, Some, None}
-use Rattle.vch_base.specs.Stream.{Appends}
+use Rattle.std.specs.Prelude.{◌≡◌, ◌≤◌, ◌<◌, ◌⊎◌, ℕ, List, length, reverse, Option, Some, None}
+use Rattle.vch_base.specs.Stream.{Extends}
 use Rattle.vch_recipe.specs.Recipes.{Recipes}
 use Rattle.vch_recipe.specs.Cuts.{IsHeaderCut, IsContentCut}
 use Rattle.vch_recipe.specs.declared.fault.RecipeFault.TheVariants as recipe_faults
@@ -20,6 +20,7 @@ use Rattle.vch_header.specs.declared.fault.MessageFault.{MessageFault}
 use Rattle.vch_scenario.specs.Faults as scenario_faults
 use Rattle.vch_scenario.specs.declared.fault.Why.{Why}
 use Rattle.vch_replay.specs.Input.{limit}
+use Rattle.vch_replay.specs.Output.{WritesPrefix}
 use Rattle.vch_replay.specs.Lines.{recipe_text, scenario_fault, message_fault, not_built, recipe_fault}
 use Rattle.vch_replay.specs.declared.command.Command.{Command}
 use Rattle.vch_replay.specs.declared.command.Command.TheVariants as commands
@@ -123,18 +124,18 @@ IsIn commands.Header input = (text : List ℕ) × IsTranslation input text
 -- the answer to the input was written, whole
 abbrev pub WritesAnswer : Option Command → List ℕ → Option (List ℕ) → Option (List ℕ) → Type 0
 WritesAnswer None input old new = ⊥
-WritesAnswer (Some command) input old new = (text : List ℕ) × Answers command input text × (length input ≤ limit) × Appends old new text
+WritesAnswer (Some command) input old new = (text : List ℕ) × Answers command input text × (length input ≤ limit) × Extends old new text
 
 -- the line of a refusal was written, whole
 abbrev pub WritesRefusal : Option Command → List ℕ → Option (List ℕ) → Option (List ℕ) → Type 0
 WritesRefusal None input old new = ⊥
-WritesRefusal (Some command) input old new = (line : List ℕ) × Refuses command input line × (length input ≤ limit) × Appends old new line
+WritesRefusal (Some command) input old new = (line : List ℕ) × Refuses command input line × (length input ≤ limit) × Extends old new line
 
 -- a prefix of the answer, or of the line of a refusal, was written
 abbrev pub WritesPart : Option Command → List ℕ → Option (List ℕ) → Option (List ℕ) → Type 0
 WritesPart None input old new = ⊥
 WritesPart (Some command) input old new =
-    (text : List ℕ) × (n : ℕ) × (Answers command input text ⊎ Refuses command input text) × (length input ≤ limit) × Appends old new (take n text)
+    (text : List ℕ) × (Answers command input text ⊎ Refuses command input text) × (length input ≤ limit) × WritesPrefix old new text
 
 -- the words are a form, and the input is short and in its grammar
 abbrev pub IsGood : Option Command → Option (List ℕ) → Type 0

@@ -1,4 +1,5 @@
-ghost use Rattle.std.specs.Prelude.{◌≡◌, ◌<◌, ◌≤◌, length, IfOk};
+ghost use Rattle.std.specs.Prelude.{◌≤◌, length, IfOk};
+ghost use Rattle.vch_replay.specs.Input.{limit};
 ghost use Rattle.vch_replay.specs.Run.{Comes};
 ghost use Rattle.vch_replay.specs.declared.command.Command.TheVariants as commands;
 
@@ -10,7 +11,7 @@ use vch_scenario::ScenarioFault;
 
 /// The canonical text of the scenario that the input gives, or its first fault.
 pub fn answer(alloc: Global, input: &[u8]) -> Result<Outcome, NoMemory>
-    requires { length input.now ≤ 4194304 }
+    requires { length input.now ≤ limit }
     ensures { IfOk result (λ outcome. Comes commands.Check input.now outcome) }
 {
     match vch_scenario::read(alloc, input) {

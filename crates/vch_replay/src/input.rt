@@ -2,7 +2,7 @@ ghost use Rattle.std.specs.Prelude.{◌≡◌, ◌<◌, ◌≤◌, ◌+◌, ◌-
 ghost use Rattle.std.specs.Io.KnownBytes.{Consumes, IsAtEnd};
 ghost use Rattle.vch_base.specs.Stream.{Rose};
 ghost use Rattle.vch_replay.specs.declared.input.InputFault.TheVariants as faults;
-ghost use Rattle.vch_replay.specs.Input.{limit, GaveTooMuch, GaveAtMost};
+ghost use Rattle.vch_replay.specs.Input.{limit, EachReadGave, GaveTooMuch, GaveAtMost};
 
 use std::alloc::Global;
 use vch_base::{NoMemory, Source};
@@ -29,12 +29,15 @@ impl From<NoMemory> for InputFault {
 /// Reads to the end of the source, or until one byte more than the limit was given. Each read asks for at least one byte.
 pub fn read_all<S: Source>(alloc: Global, source: &mut S) -> Result<Vec<u8>, InputFault>
     ensures later { S.faults source.old ≤ S.faults source.new }
-    ensures bytes { IfOk result (λ bytes. Consumes (S.left source.old) (S.left source.new) bytes.items × IsAtEnd (S.left source.new)) }
+    ensures taken { IfOk result (λ bytes. Consumes (S.left source.old) (S.left source.new) bytes.items) }
+    ensures ended { OnOk result (IsAtEnd (S.left source.new)) }
     ensures short { IfOk result (λ bytes. length bytes.items ≤ limit) }
     ensures failed { IsErrOf result InputFault.Failed → Rose (S.faults source.old) (S.faults source.new) }
     ensures long { IsErrOf result InputFault.TooLong → GaveTooMuch (S.left source.old) (S.left source.new) }
     ensures enough { (IsErrOf result InputFault.TooLong → ⊥) → GaveAtMost limit (S.left source.old) (S.left source.new) }
     ensures at_most { GaveAtMost (limit + 1) (S.left source.old) (S.left source.new) }
+    ensures reads { S.reads source.new ≤ S.reads source.old + (limit + 1) }
+    ensures each { EachReadGave (S.left source.old) (S.left source.new) (S.reads source.old) (S.reads source.new) }
 {
     let mut bytes = Vec::new(alloc);
     let mut buffer = [0u8; 4096];

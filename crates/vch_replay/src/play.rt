@@ -1,6 +1,7 @@
 ghost use Rattle.std.specs.Prelude.{◌≡◌, ◌≤◌, length, None, Some, IfOk};
 ghost use Rattle.vch_model.specs.Canonical.{IsWritable};
 ghost use Rattle.vch_model.specs.UserOnly.{IsUserOnly};
+ghost use Rattle.vch_replay.specs.Input.{limit};
 ghost use Rattle.vch_replay.specs.Run.{Comes, IsPlayed, IsSeedReport, IsTurnReport, playing};
 
 use crate::fault::{not_built_line, scenario_line};
@@ -53,7 +54,7 @@ fn report_text(alloc: Global, scenario: &Scenario, seed: Option<u64>) -> Result<
 /// The report of a run of the scenario that the input gives, or its first fault, or that it can't be run yet. The run is in
 /// turn, or by a seed where there is one.
 pub fn answer(alloc: Global, input: &[u8], seed: Option<u64>) -> Result<Outcome, NoMemory>
-    requires { length input.now ≤ 4194304 }
+    requires { length input.now ≤ limit }
     ensures { IfOk result (λ outcome. Comes (playing seed) input.now outcome) }
 {
     match vch_scenario::read(alloc, input) {

@@ -2,7 +2,7 @@ ghost use Rattle.std.specs.Prelude.{◌≡◌, ◌≢◌, ◌⊎◌, ◌↔◌, 
 ghost use Rattle.std.specs.Io.KnownBytes.{IsAtEnd};
 ghost use Rattle.vch_base.specs.Stream.{Rose};
 ghost use Rattle.vch_replay.specs.Commands.{command_of};
-ghost use Rattle.vch_replay.specs.Input.{limit, GaveTooMuch, GaveAtMost};
+ghost use Rattle.vch_replay.specs.Input.{limit, EachReadGave, GaveTooMuch, GaveAtMost};
 ghost use Rattle.vch_replay.specs.Run.{Comes, WritesAnswer, WritesRefusal, WritesPart, IsGood};
 
 use crate::command::{Command, command_of};
@@ -15,7 +15,7 @@ use vch_base::{NoMemory, Sink, Source};
 
 /// What a command comes to. Its text, or its line, is made whole.
 fn perform(alloc: Global, command: Command, input: &[u8]) -> Result<Outcome, NoMemory>
-    requires { length input.now ≤ 4194304 }
+    requires { length input.now ≤ limit }
     ensures { IfOk result (λ outcome. Comes command input.now outcome) }
 {
     match command {
@@ -68,6 +68,9 @@ pub fn run_plain<S: Source, K: Sink>(
     ensures long { result ≡ 6 → GaveTooMuch (S.left source.old) (S.left source.new) }
     ensures enough { result ≢ 6 → GaveAtMost limit (S.left source.old) (S.left source.new) }
     ensures at_most { GaveAtMost (limit + 1) (S.left source.old) (S.left source.new) }
+    // No read comes after the end, and none asks for nothing.
+    ensures reads { S.reads source.new ≤ S.reads source.old + (limit + 1) }
+    ensures each { EachReadGave (S.left source.old) (S.left source.new) (S.reads source.old) (S.reads source.new) }
     // Nothing was written.
     ensures silent { (result ≡ 3) ⊎ (result ≡ 5) ⊎ (result ≡ 6) → sink.new ≡ sink.old }
 

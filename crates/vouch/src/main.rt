@@ -1,14 +1,16 @@
-//! The command: its words, standard input and standard output, handed to the top call.
+//! The command: its words, standard input and standard output, handed to `run_over`, and its status.
 //!
-//! The status is the top call's, and 7 where the words can't be had (one of them is no UTF-8, or memory runs out).
+//! Where the words can't be had (one of them is no UTF-8, or memory runs out) the status is 7, and nothing is read or written.
 #![tactic(auto)]
 
-mod stream;
+mod faults;
+mod input;
+mod output;
+mod run;
 
+use run::run_over;
 use std::process::ExitCode;
 use std::{env, io};
-use stream::{Input, Output};
-use vch_replay::run_plain;
 
 #[cfg(test)]
 mod tests;
@@ -21,7 +23,5 @@ fn main(rt: HostRuntime) -> ExitCode {
     let Ok(words) = words.skip(1).collect::<Vec<String>>(alloc) else {
         return ExitCode::from(7);
     };
-    let mut source = Input::new(rt.reader());
-    let mut sink = Output::new(io::writer(&rt));
-    ExitCode::from(run_plain(alloc, words.as_slice(), &mut source, &mut sink))
+    ExitCode::from(run_over(alloc, words.as_slice(), rt.reader(), io::writer(&rt)))
 }

@@ -1,6 +1,6 @@
 -- The text of a drill. It is this project's own.
 use Rattle.std.specs.Prelude.{◌≤◌, ℕ, ◌*◌, min, List, ◌++◌, length, take, Option, codes}
-use Rattle.vch_base.specs.Stream.{Appends}
+use Rattle.vch_base.specs.Stream.{Extends}
 use Rattle.vch_model.specs.Text.{spaced, newline}
 use Rattle.vouch_drill.specs.Counts.{slot_count}
 use Rattle.vouch_drill.specs.declared.counts.Counts.{Counts}
@@ -19,4 +19,4 @@ made_text n = counts_text n (record { makes = 2 * n; dead = 0; released = min n 
 
 -- a prefix of the text was written, where it is told
 abbrev pub WritesPrefix : Option (List ℕ) → Option (List ℕ) → List ℕ → Type 0
-WritesPrefix old new text = (n : ℕ) × (n ≤ length text) × Appends old new (take n text)
+WritesPrefix old new text = (n : ℕ) × (n ≤ length text) × Extends old new (take n text)

@@ -1,5 +1,5 @@
 ghost use Rattle.std.specs.Prelude.{◌≡◌, ◌<◌, ◌≤◌, List, ℕ, length, take, OnOk, OnErr};
-ghost use Rattle.vch_base.specs.Stream.{Appends, Rose};
+ghost use Rattle.vch_base.specs.Stream.{Extends, Rose};
 ghost use Rattle.vouch_drill.specs.Text.{WritesPrefix};
 
 use vch_base::{Failed, Sink};
@@ -7,7 +7,7 @@ use vch_base::{Failed, Sink};
 /// Writes a whole text.
 pub fn write_all<K: Sink>(sink: &mut K, text: &[u8]) -> Result<(), Failed>
     ensures later { K.faults sink.old ≤ K.faults sink.new }
-    ensures whole { OnOk result (Appends (K.written sink.old) (K.written sink.new) text.now) }
+    ensures whole { OnOk result (Extends (K.written sink.old) (K.written sink.new) text.now) }
     ensures failed { OnErr result (Rose (K.faults sink.old) (K.faults sink.new)) }
     ensures prefix { OnErr result (WritesPrefix (K.written sink.old) (K.written sink.new) text.now) }
 {

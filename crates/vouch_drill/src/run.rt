@@ -1,5 +1,5 @@
 ghost use Rattle.std.specs.Prelude.{◌≡◌, ◌≤◌, ◌⊎◌, ◌↔◌, ℕ, IfOk, map, string_bytes};
-ghost use Rattle.vch_base.specs.Stream.{Appends, Rose};
+ghost use Rattle.vch_base.specs.Stream.{Extends, Rose};
 ghost use Rattle.vouch_drill.specs.Words.{most_rounds, AsksMade, IsNoForm};
 ghost use Rattle.vouch_drill.specs.Text.{made_text, WritesPrefix};
 
@@ -47,7 +47,7 @@ pub fn drill<R: Threads + Sync, K: Sink, G: Gate + Sync>(
     gate: &G,
 ) -> u8
     // Of the makes none finds its slot released, and of the releases none races.
-    ensures made { (n : ℕ) → AsksMade (map string_bytes words.now) n → result ≡ 0 → Appends (K.written sink.old) (K.written sink.new) (made_text n) }
+    ensures made { (n : ℕ) → AsksMade (map string_bytes words.now) n → result ≡ 0 → Extends (K.written sink.old) (K.written sink.new) (made_text n) }
 
     ensures words { (result ≡ 1) ↔ IsNoForm (map string_bytes words.now) }
     ensures write_fault { result ≡ 4 → Rose (K.faults sink.old) (K.faults sink.new) }

@@ -9,4 +9,4 @@ refuse-requires-clause-forms c = forms_there c.args.parts.now c.args.task c.requ
 
 pub returns-in-Err : goal.returns-in-Err
 returns-in-Err c =
-    refusal_follows c.args.parts.now c.args.task c.requires.task c.requires.next c.requires.idle c.in-Err.code (subst (ReadsNext c.args.parts.now c.args.task) c.in-Err.is c.read.ensures) c.refuse.new.parts c.refuse.ensures
+    refusal_follows c.args.parts.now c.args.task c.requires.task c.requires.next c.requires.idle c.in-Err.code (subst (ReadsNext c.args.parts.now c.args.task) c.in-Err.is c.read.ensures.reads) c.refuse.new.parts c.refuse.ensures
