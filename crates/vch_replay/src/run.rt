@@ -27,7 +27,7 @@ fn perform(alloc: Global, command: Command, input: &[u8]) -> Result<Outcome, NoM
     }
 }
 
-/// The status of a run that memory was wanted for.
+/// The status of a run that is out of memory, and the one place where it is written.
 fn out_of_memory(_cause: NoMemory) -> u8
     ensures { result ≡ 5 }
 {

@@ -96,6 +96,13 @@ const CASES: &[Case] = &[
         status: 0,
         output: "report 1\ncall 2 1 create 0 0\ncall 1 1 create 0 0\nphase\ntask 1 ledger 0 held 0 out 0\ntask 2 ledger 0 held 0 out 0\nvouchers 0 values 1\nend\n",
     },
+    // Four tasks make one value, and a fifth makes another.
+    Case {
+        words: &["play"],
+        input: b"vouch 1\ntasks 5\ntask 1\ntask 2\ntask 3\ntask 4\ntask 5\nphase\n1 create 07000000d300000000000000020000006162\n2 create 07000000d300000000000000020000006162\n3 create 07000000d300000000000000020000006162\n4 create 07000000d300000000000000020000006162\n5 create 07000000d300000000000000020000006364\nend\n",
+        status: 0,
+        output: "report 1\nmade 7 user 6162\ncall 1 1 create 0 1\ncall 2 1 create 0 1\ncall 3 1 create 0 1\ncall 4 1 create 0 1\nmade 7 user 6364\ncall 5 1 create 0 1\nphase\ntask 1 ledger 0 held 0 out 0\ntask 2 ledger 0 held 0 out 0\ntask 3 ledger 0 held 0 out 0\ntask 4 ledger 0 held 0 out 0\ntask 5 ledger 0 held 0 out 0\nvouchers 2 values 3\nend\n",
+    },
     Case {
         words: &["play"],
         input: b"vouch 1\ntasks 1\ntask 1 donor\nphase\nphase\nend\n",
@@ -199,6 +206,13 @@ const CASES: &[Case] = &[
         input: b"\x07\x00\x00\x00\xd3\x00\x00\x00\x00\x00\x00\x00\x02\x00\x00\x00ab",
         status: 0,
         output: "recipe 7 211 0 6162\nend\n",
+    },
+    // Three records, the second without content.
+    Case {
+        words: &["recipe"],
+        input: b"\x07\x00\x00\x00\xd3\x00\x00\x00\x00\x00\x00\x00\x02\x00\x00\x00ab\x07\x00\x00\x00\x02\x00\x00\x00\x01\x00\x00\x00\x00\x00\x00\x00\x07\x00\x00\x00\xd3\x00\x00\x00\x00\x00\x00\x00\x01\x00\x00\x00c",
+        status: 0,
+        output: "recipe 7 211 0 6162\nrecipe 7 2 1 -\nrecipe 7 211 0 63\nend\n",
     },
     Case {
         words: &["recipe"],
