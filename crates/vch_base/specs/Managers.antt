@@ -1,5 +1,5 @@
 -- What a manager keeps, and what it answers.
-use Rattle.std.specs.Prelude.{◌≡◌, ℕ, ◌+◌, ◌-◌, ◌<◌, ◌≤◌, ◌==◌, nat_lt, ◌&&◌, not, if◌then◌else◌, Bool, true, false, List, [], ◌∷◌, ◌++◌, length, slice_set, slice_index, slice_index_or, count_by, Option, Some, None, Result, Ok, Err, ℤ}
+use Rattle.std.specs.Prelude.{◌≡◌, ◌≢◌, ℕ, ◌+◌, ◌-◌, ◌<◌, ◌≤◌, ◌==◌, nat_lt, ◌&&◌, not, if◌then◌else◌, Bool, true, false, List, [], ◌∷◌, ◌++◌, length, slice_set, slice_index, slice_index_or, count_by, Option, Some, None, Result, Ok, Err, ℤ}
 use Rattle.vch_base.specs.declared.key.Key.{Key}
 use Rattle.vch_base.specs.declared.key.Key.TheVariants as keys
 use Rattle.vch_base.specs.declared.value.Value.{Value}
@@ -201,6 +201,14 @@ abbrev pub vacancy : Option Live → ℕ
 vacancy None = 1
 vacancy (Some l) = 0
 
+-- something is due on accounts and on task lists alone, and the holder of an account is a task from 1 on
+abbrev pub IsSettled : Value → ℕ → Type 0
+IsSettled (values.User bytes) due = due ≡ 0
+IsSettled (values.Chain list) due = Unit {0}
+IsSettled values.Default due = due ≡ 0
+IsSettled (values.Task t) due = due ≡ 0
+IsSettled (values.Account holder merchant) due = 1 ≤ holder
+
 pub record Lawful (k : Kept) : Type 0 where
   -- two live handles with one value are equal
   pub one_handle : (i j : ℕ) (x : Value) → value_at k.slots i ≡ Some x → value_at k.slots j ≡ Some x → i ≡ j
@@ -209,3 +217,8 @@ pub record Lawful (k : Kept) : Type 0 where
   pub within : (h : ℕ) → length k.slots ≤ h → count h k.free ≡ 0
   -- Default is live at handle 0 of a manager of the bank's row
   pub default : k.rules.row ≡ keys.Bank → value_at k.slots 0 ≡ Some values.Default
+  -- only a manager of the bank's row has ledgers, and no task that it knows has a flag
+  pub ledgers : k.rules.row ≢ keys.Bank → k.ledgers ≡ []
+  pub flags : k.rules.row ≡ keys.Bank → (t : ℕ) → flags_in k.rules.tasks t ≡ no_flags
+  -- each live value is settled
+  pub settled : (h : ℕ) (l : Live) → live_at k.slots h ≡ Some l → IsSettled l.value l.due
