@@ -11,7 +11,7 @@ use Rattle.vch_entry.specs.declared.table.Entry.{Entry}
 use Rattle.vch_entry.specs.Entries as entry
 use Rattle.vch_entry.specs.Entries.{Entries, entry_at, handle_at}
 use Rattle.vch_recipe.specs.declared.recipe.Recipe.{Recipe}
-use Rattle.vch_value.specs.declared.flight.Receipt.{Receipt}
+use Rattle.vch_value.specs.Flight.{Receipt}
 use Rattle.vch_value.specs.Picture.{Picture, Claimed, entry_of, flags_at, claims_at, agreed_in, IsCounted}
 use Rattle.vch_value.specs.Calls.{previous_handle}
 use Rattle.vch_model.specs.Eval.{answer_to}

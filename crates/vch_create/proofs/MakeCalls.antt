@@ -28,7 +28,7 @@ use Rattle.vch_create.proofs.MadeLive.{IsFree}
 use Rattle.vch_create.proofs.MakeGives.{value_is}
 use Rattle.std.proofs.lemmas.List.{length-reverse}
 use Rattle.vch_value.specs.declared.flight.Made.TheVariants as made
-use Rattle.vch_value.specs.declared.flight.Receipt.{Receipt}
+use Rattle.vch_value.specs.Flight.{Receipt}
 use Rattle.vch_state.specs.Pictures.{picture_of}
 use Rattle.vch_model.specs.Lines.{is_task}
 use Rattle.vch_model.specs.Scenarios.{line_count}

@@ -11,7 +11,7 @@ use Rattle.vch_base.specs.declared.manager.Got.TheVariants as got
 use Rattle.vch_base.specs.Managers.{Kept, Handed}
 use Rattle.vch_recipe.specs.declared.recipe.Recipe.{Recipe}
 use Rattle.vch_value.specs.declared.flight.Made.TheVariants as made
-use Rattle.vch_value.specs.declared.flight.Receipt.{Receipt}
+use Rattle.vch_value.specs.Flight.{Receipt}
 use Rattle.vch_value.specs.Calls as value_calls
 use Rattle.vch_model.specs.Lines.{is_task}
 use Rattle.vch_model.specs.declared.call.Call.TheVariants as calls

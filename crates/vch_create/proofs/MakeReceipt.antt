@@ -15,7 +15,7 @@ use Rattle.vch_base.specs.Managers.{Kept, live_at, more_made, new_live, next_han
 use Rattle.vch_entry.specs.Entries.{Entries}
 use Rattle.vch_recipe.specs.declared.recipe.Recipe.{Recipe}
 use Rattle.vch_value.specs.declared.flight.Made.TheVariants as made
-use Rattle.vch_value.specs.declared.flight.Receipt.{Receipt}
+use Rattle.vch_value.specs.Flight.{Receipt}
 use Rattle.vch_value.specs.Picture as picture
 use Rattle.vch_value.specs.Picture.{Picture, made_picture}
 use Rattle.vch_model.specs.Lines.{is_task, phases_in, lines_of}

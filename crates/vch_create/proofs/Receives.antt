@@ -7,7 +7,7 @@ use Rattle.vch_base.specs.declared.key.Key.TheVariants as keys
 use Rattle.vch_base.specs.Slots.{is_taken}
 use Rattle.vch_base.specs.Managers.{Kept, live_at, count}
 use Rattle.vch_entry.specs.Entries.{Entries, handle_at}
-use Rattle.vch_value.specs.declared.flight.Receipt.{Receipt}
+use Rattle.vch_value.specs.Flight.{Receipt}
 use Rattle.vch_value.specs.Picture as picture
 use Rattle.vch_value.specs.Picture.{Picture, Alike, AllAre, claims_at, flags_at, race, made_picture, default_of}
 use Rattle.vch_value.proofs.Rows.{stands_alike}

@@ -11,7 +11,7 @@ use Rattle.vch_base.specs.declared.manager.GetFault.TheVariants as fault
 use Rattle.vch_recipe.specs.Recipes.{One, first_of}
 use Rattle.vch_recipe.specs.declared.recipe.Recipe.{Recipe}
 use Rattle.vch_value.specs.declared.flight.Made.{Made}
-use Rattle.vch_value.specs.declared.flight.Receipt.{Receipt}
+use Rattle.vch_value.specs.Flight.{Receipt}
 use Rattle.vch_value.specs.Picture as picture
 use Rattle.vch_value.specs.Picture.{got_picture}
 use Rattle.vch_value.specs.Calls as value_calls

@@ -84,7 +84,7 @@ fn go_on(parts: &mut Parts, task: u32, entry: Entry)
                 fresh: true,
             },
         ) => {
-            note_made(parts, receipt.handle, entry);
+            note_made(parts, receipt.handle(), entry);
             give_receipt(parts, task, receipt);
         }
         Ok(

@@ -14,8 +14,8 @@ use Rattle.vch_base.specs.Slots.{is_taken}
 use Rattle.vch_entry.specs.Entries as entry
 use Rattle.vch_entry.specs.Entries.{handle_at, entry_at}
 use Rattle.vch_table.specs.declared.indices.KeyedIndex.{KeyedIndex}
-use Rattle.vch_value.specs.declared.flight.Claim as flight
-use Rattle.vch_value.specs.declared.flight.Asked.{Asked}
+use Rattle.vch_value.specs.Flight as flight
+use Rattle.vch_value.specs.Flight.{Asked}
 use Rattle.vch_value.specs.Picture as picture
 use Rattle.vch_value.specs.Picture.{Picture, Claimed, with_claims}
 use Rattle.vch_value.proofs.Lists.{test_other}

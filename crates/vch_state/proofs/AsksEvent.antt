@@ -12,8 +12,8 @@ use Rattle.vch_base.specs.Values.{is_default}
 use Rattle.vch_base.specs.Managers.{Kept, live_at, value_at, value_of, after_release}
 use Rattle.vch_base.specs.Slots.{is_taken}
 use Rattle.vch_entry.specs.Entries.{handle_at, entry_at}
-use Rattle.vch_value.specs.declared.flight.Claim as flight
-use Rattle.vch_value.specs.declared.flight.Asked.{Asked}
+use Rattle.vch_value.specs.Flight as flight
+use Rattle.vch_value.specs.Flight.{Asked}
 use Rattle.vch_value.specs.Picture as picture
 use Rattle.vch_value.specs.Picture.{Picture, Claimed, with_claims, default_of}
 use Rattle.vch_value.specs.Calls.{IsFor}

@@ -8,7 +8,7 @@ use Rattle.vch_base.specs.Managers.{live_at, count}
 use Rattle.vch_base.specs.Values.{is_default}
 use Rattle.vch_entry.specs.Entries.{Entries, handle_at, entry_at, made_of}
 use Rattle.vch_table.specs.declared.indices.KeyedIndex.{KeyedIndex}
-use Rattle.vch_value.specs.declared.flight.Claim as flight
+use Rattle.vch_value.specs.Flight as flight
 use Rattle.vch_value.specs.Picture as picture
 use Rattle.vch_value.specs.Picture.{Picture, Claimed, Alike, claims_at, flags_at, is_nil, is_met, let_go_picture, takes_claim, default_of}
 use Rattle.vch_value.proofs.Rows.{stands_alike}

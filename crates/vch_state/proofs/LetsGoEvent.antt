@@ -10,7 +10,7 @@ use Rattle.vch_entry.specs.declared.table.Entry.{Entry}
 use Rattle.vch_entry.specs.declared.table.LetGo.{LetGo}
 use Rattle.vch_entry.specs.declared.table.LetGo.TheVariants as let_go
 use Rattle.vch_entry.specs.Entries.{Entries, handle_at, handle_of, entry_at, refs_of, made_of, let_go_answer, less_refs, Writes, IsApart}
-use Rattle.vch_value.specs.declared.flight.Claim as flight
+use Rattle.vch_value.specs.Flight as flight
 use Rattle.vch_value.specs.Picture as picture
 use Rattle.vch_value.specs.Picture.{Picture, entry_of, let_go_picture, takes_claim}
 use Rattle.vch_value.specs.Calls.{LetsGo, claim_of}

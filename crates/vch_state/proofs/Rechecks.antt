@@ -7,8 +7,8 @@ use Rattle.vch_base.specs.declared.key.Key.{Key}
 use Rattle.vch_base.specs.Managers.{count}
 use Rattle.vch_entry.specs.Entries.{Entries, entry_at, made_of}
 use Rattle.vch_table.specs.declared.indices.KeyedIndex.{KeyedIndex}
-use Rattle.vch_value.specs.declared.flight.Claim as flight
-use Rattle.vch_value.specs.declared.flight.Asked.{Asked}
+use Rattle.vch_value.specs.Flight as flight
+use Rattle.vch_value.specs.Flight.{Asked}
 use Rattle.vch_value.specs.Picture as picture
 use Rattle.vch_value.specs.Picture.{Picture, Claimed, with_claims, flags_at, is_met, takes_again, again}
 use Rattle.vch_model.specs.declared.lists.Scenario.{Scenario}

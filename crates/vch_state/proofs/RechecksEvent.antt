@@ -14,8 +14,8 @@ use Rattle.vch_entry.specs.declared.table.Check.{Check}
 use Rattle.vch_entry.specs.declared.table.Check.TheVariants as check
 use Rattle.vch_entry.specs.Entries.{Entries, handle_at, handle_of, entry_at, made_of, releasing_of, check_answer, checked, Writes, IsApart}
 use Rattle.vch_table.specs.declared.table.Cell.{Cell}
-use Rattle.vch_value.specs.declared.flight.Claim as flight
-use Rattle.vch_value.specs.declared.flight.Asked.{Asked}
+use Rattle.vch_value.specs.Flight as flight
+use Rattle.vch_value.specs.Flight.{Asked}
 use Rattle.vch_value.specs.Picture as picture
 use Rattle.vch_value.specs.Picture.{Picture, Claimed, Meets, with_claims, claims_at, flags_at, entry_of, again, takes_again}
 use Rattle.vch_value.specs.Calls.{IsAnswered, Rechecks, claim_again}

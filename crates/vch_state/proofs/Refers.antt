@@ -8,7 +8,7 @@ use Rattle.vch_entry.specs.Entries.{Entries, handle_at, Refers}
 use Rattle.vch_recipe.specs.Recipes.{One, first_of}
 use Rattle.vch_recipe.specs.declared.recipe.Recipe.{Recipe}
 use Rattle.vch_table.specs.Indices.{Bounded, SetsIndex}
-use Rattle.vch_value.specs.declared.flight.Receipt.{Receipt}
+use Rattle.vch_value.specs.Flight.{Receipt}
 use Rattle.vch_value.specs.Picture as picture
 use Rattle.vch_value.specs.Picture.{Picture, Claimed, Alike, bring, claims_at, flags_at, referred_picture}
 use Rattle.vch_value.proofs.Rows.{stands_alike}

@@ -8,7 +8,7 @@ use Rattle.vch_base.specs.Managers.{Kept, count}
 use Rattle.vch_entry.specs.Entries.{Entries, handle_at, entry_at, refs_of, made_of, IsApart, AreBelow, Refers}
 use Rattle.vch_recipe.specs.Recipes.{First, One, first_of}
 use Rattle.vch_recipe.specs.declared.recipe.Recipe.{Recipe}
-use Rattle.vch_value.specs.declared.flight.Receipt.{Receipt}
+use Rattle.vch_value.specs.Flight.{Receipt}
 use Rattle.vch_value.specs.Picture as picture
 use Rattle.vch_value.specs.Picture.{Picture, entry_of, referred_picture}
 use Rattle.vch_value.proofs.Entry.{entry_is}

@@ -4,7 +4,7 @@ use Rattle.vch_base.specs.declared.key.Key.{Key}
 use Rattle.vch_base.specs.Keys.{number_of}
 use Rattle.vch_base.specs.Managers.{Kept}
 use Rattle.vch_entry.specs.Entries.{Entries}
-use Rattle.vch_value.specs.declared.flight.Claim.{Claim}
+use Rattle.vch_value.specs.Flight.{Claim}
 use Rattle.vch_model.specs.declared.entry.Entry.{Entry}
 use Rattle.vch_model.specs.declared.entry.Entry.TheVariants.{Released}
 use Rattle.vch_table.specs.Indices.{Bounded, SetsIndex}

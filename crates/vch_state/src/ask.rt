@@ -35,11 +35,11 @@ pub fn ask(parts: &mut Parts, task: u32)
     let Claiming::Claimed { key, claim } = mem::replace(&mut frame.claim, Claiming::Nothing) else {
         return;
     };
-    let handle = parts.user_entries.handle(claim.index);
+    let handle = parts.user_entries.handle(claim.index());
     let made = parts.made.number(key, handle);
     let asked = vch_value::ask(&parts.user_entries, &mut parts.user, claim);
     count_question(&mut parts.tally);
-    note_release(&mut parts.history, asked.agreed, made);
+    note_release(&mut parts.history, asked.agreed(), made);
     frame.claim = Claiming::Answered { key, asked };
     parts.frames.put(task, Some(frame));
 }

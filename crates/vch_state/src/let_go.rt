@@ -1,7 +1,7 @@
 ghost use Rattle.std.specs.Prelude.{◌≡◌, Some, IsTrue};
 ghost use Rattle.vch_base.specs.declared.kind.Kind.TheVariants as kinds;
 ghost use Rattle.vch_model.specs.Lines.{is_task};
-ghost use Rattle.vch_value.specs.declared.flight.Claim as flight;
+ghost use Rattle.vch_value.specs.Flight as flight;
 ghost use Rattle.vch_state.specs.Plain as plain;
 ghost use Rattle.vch_state.specs.Plain.{frame_of};
 ghost use Rattle.vch_state.specs.Moves as moves;
