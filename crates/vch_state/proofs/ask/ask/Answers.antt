@@ -29,4 +29,4 @@ returns c =
     ask_follows c.args.parts.now c.args.task c.in-Some.frame c.in-Claimed.key c.in-Claimed.claim c.requires.task c.requires.next (sym c.take.ensures.frame ∙ c.in-Some.is) (sym c.replace.ensures.value ∙ c.in-Claimed.is)
     c.ask-asked.result c.ask-asked.new.manager c.ask-asked.ensures.claim.0 c.ask-asked.ensures.claim.1 c.ask-asked.ensures.leaves c.ask-asked.ensures.stands c.ask-asked.ensures.row
     c.put.new.self c.count_question.new.tally c.note_release.new.history c.number-made.result c.handle-handle.result
-    (c.put.ensures ∙ rw c.take.ensures.gone refl) c.count_question.ensures (rw c.index.ensures at c.handle-handle.ensures) c.number-made.ensures (rw c.agreed.ensures at c.note_release.ensures.entries) c.note_release.ensures.spare
+    (c.put.ensures ∙ rw c.take.ensures.gone refl) c.count_question.ensures (rw c.index.ensures at c.handle-handle.ensures) c.number-made.ensures (rw c.agreed.ensures at c.note_release.ensures.entries) (rw c.agreed.ensures at c.note_release.ensures.spare)
