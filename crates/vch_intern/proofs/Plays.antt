@@ -45,11 +45,11 @@ module _ (old new : Kept) (n : ℕ) (counted : List ℕ) (laws : Lawful old) (fe
   handed x r is =
       handed_cases (λ b s. Keeps (n + 1) counted s) old.slots new.slots old.free new.free x r placed is more
       (λ h l e. let w = writes_set old.slots h (Some (again l)) (place_of old.slots h l e) in let m : made_at old.slots h ≡ l.made = ap made_of e in
-        (omega (arith, p.handles, length-set old.slots h (Some (again l))), made_after old.slots _ h n (again l) w (omega (arith, m, p.counts h)) p.counts, alive_after old.slots _ h n (again l) w counted p.alive))
+      (omega (arith, p.handles, length-set old.slots h (Some (again l))), made_after old.slots _ h n (again l) w (omega (arith, m, p.counts h)) p.counts, alive_after old.slots _ h n (again l) w counted p.alive))
       (λ h b e. let w = writes_set old.slots h (Some (new_live x)) b in
-        (omega (arith, p.handles, length-set old.slots h (Some (new_live x))), made_after old.slots _ h n (new_live x) w (omega arith) p.counts, alive_after old.slots _ h n (new_live x) w counted p.alive))
+      (omega (arith, p.handles, length-set old.slots h (Some (new_live x))), made_after old.slots _ h n (new_live x) w (omega arith) p.counts, alive_after old.slots _ h n (new_live x) w counted p.alive))
       (let w = writes_push old.slots (Some (new_live x)) in let long : length (old.slots ++ Some (new_live x) ∷ []) ≡ length old.slots + 1 = grind (arith, common_steps) in
-        (omega (arith, p.handles), made_after old.slots _ (length old.slots) n (new_live x) w (omega arith) p.counts, alive_after old.slots _ (length old.slots) n (new_live x) w counted p.alive))
+      (omega (arith, p.handles), made_after old.slots _ (length old.slots) n (new_live x) w (omega arith) p.counts, alive_after old.slots _ (length old.slots) n (new_live x) w counted p.alive))
 
   -- any answer
   pub played : (a : Result (Option Value) ℤ) (r : Result Got GetFault) → Gets old a r new → Played new (n + 1) counted
