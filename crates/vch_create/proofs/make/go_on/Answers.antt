@@ -27,9 +27,9 @@ pub note_made-requires-clause-few : goal.note_made-requires-clause-few
 note_made-requires-clause-few c = subst (λ (x : Parts). length x.history.entries < 4294967295) (sym c.ask.ensures.others) (past_few c.args.parts.now c.requires.reached)
 
 pub note_made-requires-clause-numbers : goal.note_made-requires-clause-numbers
-note_made-requires-clause-numbers c = subst (λ (x : Parts). c.in-Ok-Receipt-default-true.receipt.handle < length x.made.user) (sym c.ask.ensures.others)
+note_made-requires-clause-numbers c = rw c.handle.ensures (subst (λ (x : Parts). c.in-Ok-Receipt-default-true.receipt.handle < length x.made.user) (sym c.ask.ensures.others)
     (handle_few c.args.parts.now c.requires.reached c.in-Ok-Receipt-default-true.receipt c.args.task c.ask.new.parts c.requires.room
-    (subst (λ r. Answers c.args.task r c.args.parts.now c.ask.new.parts) (c.in-Ok-Receipt-default-true.is ∙ ap (λ x. Ok x) (c.in-Ok-Receipt-default-true.field-0-is ∙ ap (made.Receipt c.in-Ok-Receipt-default-true.receipt) c.in-Ok-Receipt-default-true.field-0-1-test)) c.ask.ensures))
+    (subst (λ r. Answers c.args.task r c.args.parts.now c.ask.new.parts) (c.in-Ok-Receipt-default-true.is ∙ ap (λ x. Ok x) (c.in-Ok-Receipt-default-true.field-0-is ∙ ap (made.Receipt c.in-Ok-Receipt-default-true.receipt) c.in-Ok-Receipt-default-true.field-0-1-test)) c.ask.ensures)))
 
 pub give_receipt-requires : goal.give_receipt-requires
 give_receipt-requires c = subst (λ (x : Parts). (0 < c.args.task) × (c.args.task ≤ length x.frames)) (sym (c.note_made.ensures.others))
@@ -39,7 +39,7 @@ pub returns-in-Ok-Receipt-default-true : goal.returns-in-Ok-Receipt-default-true
 returns-in-Ok-Receipt-default-true c = fresh_given c.args.parts.now c.args.task c.requires.task c.requires.next c.requires.idle c.requires.reached c.ask.new.parts c.give_receipt.new.parts c.in-Ok-Receipt-default-true.receipt
     c.note_made.new.parts c.args.entry c.requires.room c.requires.entry
     (subst (λ r. Answers c.args.task r c.args.parts.now c.ask.new.parts) (c.in-Ok-Receipt-default-true.is ∙ ap (λ x. Ok x) (c.in-Ok-Receipt-default-true.field-0-is ∙ ap (made.Receipt c.in-Ok-Receipt-default-true.receipt) c.in-Ok-Receipt-default-true.field-0-1-test)) c.ask.ensures)
-    c.note_made.ensures.others c.note_made.ensures.entries c.note_made.ensures.spare c.give_receipt.ensures
+    (rw c.handle.ensures at c.note_made.ensures.others) c.note_made.ensures.entries c.note_made.ensures.spare c.give_receipt.ensures
 
 pub give_receipt-requires-in-Ok-Receipt-default-false : goal.give_receipt-requires-in-Ok-Receipt-default-false
 give_receipt-requires-in-Ok-Receipt-default-false c = subst (λ (x : Parts). (0 < c.args.task) × (c.args.task ≤ length x.frames)) (sym c.ask.ensures.others) (in_workings c.args.parts.now c.args.task c.requires.task c.requires.reached)
