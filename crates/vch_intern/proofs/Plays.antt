@@ -1,5 +1,5 @@
 -- A manager after one more command.
-use Rattle.std.proofs.Common.{◌≡◌, ◌≢◌, ◌≤◌, ◌<◌, ◌+◌, ℕ, List, [], ◌∷◌, ◌++◌, length, set, get_or, Option, Some, None, Result, Ok, Err, Bool, true, false, ℤ, inl, inr, refl, sym, ap, subst, ◌∙◌, arith, IsSome}
+use Rattle.std.proofs.Common.{◌≡◌, ◌≤◌, ◌<◌, ◌+◌, ℕ, List, [], ◌∷◌, ◌++◌, length, set, get_or, Option, Some, None, Result, Ok, Err, Bool, true, false, ℤ, inl, inr, refl, ap, subst, ◌∙◌, arith, IsSome}
 use Rattle.std.proofs.lemmas.Grind.{common_steps}
 use Rattle.std.proofs.lemmas.List.{get_or-set_other, get_or-set_same, length-set}
 use Rattle.std.proofs.lemmas.Bool.{cases_eq}
@@ -11,9 +11,9 @@ use Rattle.vch_base.specs.declared.manager.Got.{Got}
 use Rattle.vch_base.specs.declared.manager.Got.TheVariants as got
 use Rattle.vch_base.specs.declared.manager.GetFault.{GetFault}
 use Rattle.vch_base.specs.declared.manager.GetFault.TheVariants as fault
-use Rattle.vch_base.specs.Managers.{Kept, Lawful, Gets, Handed, live_at, value_of, value_at, made_of, made_at, more_made, new_live}
+use Rattle.vch_base.specs.Managers.{Kept, Lawful, Gets, Handed, live_at, value_of, made_of, made_at, more_made, new_live}
 use Rattle.vch_base.specs.Places.{Placed}
-use Rattle.vch_base.proofs.Handing.{handed_cases, is_fresh, again, first_free}
+use Rattle.vch_base.proofs.Handing.{handed_cases, again, first_free}
 use Rattle.vch_intern.specs.Played.{Played}
 
 -- one value is written at a place, and counted once more there

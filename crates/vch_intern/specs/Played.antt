@@ -1,5 +1,5 @@
 -- What a manager keeps after so many commands, as the tests of managers use it.
-use Rattle.std.specs.Prelude.{◌≡◌, ℕ, ◌<◌, ◌≤◌, List, length, slice_index_or, IsSome}
+use Rattle.std.specs.Prelude.{ℕ, ◌<◌, ◌≤◌, List, length, slice_index_or, IsSome}
 use Rattle.vch_base.specs.Managers.{Kept, live_at, made_at}
 
 -- no more handles than commands, no count above their number, and a handle that was counted is live
