@@ -119,9 +119,10 @@ bare content x = if length content == 0 then Ok x else Err KERN_INVALID_ARGUMENT
 abbrev pub stored : ℕ → List ℕ → Result (Option Value) ℤ
 stored command content = if command == commands.USER_DATA_STORE then Ok (Some (values.User content)) else Err KERN_INVALID_ARGUMENT
 
--- the manager's own commands, and those that the core gives it
+-- the manager's own commands, and those that the core gives it; the manager of the key of tests is one of user data
 abbrev pub own_answer : Key → Option (List Flags) → ℕ → ℕ → Option Value → List ℕ → Result (Option Value) ℤ
 own_answer keys.User tasks by command previous content = stored command content
+own_answer keys.Test tasks by command previous content = stored command content
 own_answer keys.Importance tasks by command previous content =
     if command == commands.IMPORTANCE_SELF then bare content (Some (values.Chain (by ∷ [])))
     else if command == commands.AUTO_REDEEM then bare content (mapped (received (flags_in tasks by).receiver by) previous)
@@ -172,7 +173,7 @@ Handed slots free x (Ok (got.Value h fresh persist)) slots2 free2 = (persist ≡
 Handed slots free x (Err (fault.NoMemory cause)) slots2 free2 = (slots2 ≡ slots) × (free2 ≡ free)
 Handed slots free x result slots2 free2 = ⊥
 
--- an answer, and what a call of it leaves; want of memory may stand in for a value alone
+-- an answer, and what a call of it leaves; out of memory may stand in for a value alone
 abbrev pub Gets : Kept → Result (Option Value) ℤ → Result Got GetFault → Kept → Type 0
 Gets old (Err code) (Err (fault.Refused c)) new = (c.number ≡ code) × (new ≡ old)
 Gets old (Err code) result new = ⊥

@@ -3,7 +3,7 @@ use Rattle.std.proofs.Common.{◌≡◌, ℕ, List, set, Option, Some, None, fal
 use Rattle.std.specs.Bool.{Decides}
 use Rattle.std.specs.Option.{MatchOption}
 use Rattle.vch_base.specs.Slots.{Writes, IsUnknown}
-use Rattle.vch_base.proofs.Slots.{place_of, writes_set, all_after}
+use Rattle.vch_base.proofs.CallerLemmas.{place_of, writes_set, all_after}
 use Rattle.vch_base.specs.declared.places.Live.{Live}
 use Rattle.vch_base.specs.declared.value.Value.{Value}
 use Rattle.vch_base.specs.declared.value.Value.TheVariants as values
@@ -11,7 +11,7 @@ use Rattle.vch_base.specs.Managers.{live_at, value_of, value_at, vacancy, is_use
 use Rattle.vch_base.specs.Places.{Placed, AllLive}
 use Rattle.vch_shelf.specs.Stock.{Stock, Sound, vacancy_of}
 use Rattle.vch_shelf.specs.Finds.{mapped}
-use Rattle.vch_shelf.proofs.Finds.{finds_same, finds_inserted, finds_removed, named_at, named_none, unknown_of, item_found, not_found, names_same}
+use Rattle.vch_shelf.proofs.CallerLemmas.{finds_same, finds_inserted, finds_removed, named_at, named_none, unknown_of, item_found, not_found, names_same}
 use Rattle.indexmap.specs.IndexMap.{IndexMap}
 use Rattle.std.proofs.lemmas.Slice.Eq.{slice_eq-Decides}
 use Rattle.std.proofs.lemmas.Bool.Decides.{Decides-eqb}

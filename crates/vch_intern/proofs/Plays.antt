@@ -4,7 +4,7 @@ use Rattle.std.proofs.lemmas.Grind.{common_steps}
 use Rattle.std.proofs.lemmas.List.{get_or-set_other, get_or-set_same, length-set}
 use Rattle.std.proofs.lemmas.Bool.{cases_eq}
 use Rattle.vch_base.specs.Slots.{Writes}
-use Rattle.vch_base.proofs.Slots.{place_of, writes_set, writes_push}
+use Rattle.vch_base.proofs.CallerLemmas.{place_of, writes_set, writes_push, handed_cases, again, first_free}
 use Rattle.vch_base.specs.declared.places.Live.{Live}
 use Rattle.vch_base.specs.declared.value.Value.{Value}
 use Rattle.vch_base.specs.declared.manager.Got.{Got}
@@ -13,7 +13,6 @@ use Rattle.vch_base.specs.declared.manager.GetFault.{GetFault}
 use Rattle.vch_base.specs.declared.manager.GetFault.TheVariants as fault
 use Rattle.vch_base.specs.Managers.{Kept, Lawful, Gets, Handed, live_at, value_of, made_of, made_at, more_made, new_live}
 use Rattle.vch_base.specs.Places.{Placed}
-use Rattle.vch_base.proofs.Handing.{handed_cases, again, first_free}
 use Rattle.vch_intern.specs.Played.{Played}
 
 -- one value is written at a place, and counted once more there

@@ -195,12 +195,13 @@ impl MadeRow {
             .compare_exchange::<OfferStep>(&mut seat.token, 0, room, room);
         let token = self.table.shared.split_seat::<Cut>(&mut seat.token);
         seat.room -= room;
+        let tries = 0;
         Ok(Seat {
             token,
             own,
             dead,
             room,
-            tries: 0,
+            tries,
         })
     }
 

@@ -14,7 +14,7 @@ use Rattle.vch_base.specs.declared.manager.GetFault.{GetFault}
 use Rattle.vch_base.specs.declared.manager.GetFault.TheVariants as fault
 use Rattle.vch_base.specs.Values.{is_default}
 use Rattle.vch_base.specs.Managers.{Kept, Lawful, Gets, IsAbsent, answer, own_answer, stored, bare, mapped, received, previous_of, live_at, value_of, value_at, count, vacancy, new_live, more_made, next_handle, slots_with, flags_in}
-use Rattle.vch_base.proofs.Shelves.{inside_of}
+use Rattle.vch_base.proofs.CallerLemmas.{inside_of}
 use Rattle.vch_entry.specs.Entries.{Entries}
 use Rattle.vch_value.specs.Picture.{Picture, Stands, Meets, flags_at, claims_at, entry_of, made_picture, got_picture}
 use Rattle.vch_value.proofs.Lists.{by_cases, test_same, test_other, race_here, race_other, raced, count_in}
@@ -68,6 +68,7 @@ stored_new slots command content =
 own_new : (slots : List (Option Live)) (row : Key) (tasks : Option (List Flags)) (by command : ℕ) (previous : Option ℕ) (content : List ℕ) → (row ≡ keys.Bank → value_at slots 0 ≡ Some values.Default)
     → NotNew slots (own_answer row tasks by command (previous_of slots previous) content)
 own_new slots keys.User tasks by command previous content bank = stored_new slots command content
+own_new slots keys.Test tasks by command previous content bank = stored_new slots command content
 own_new slots keys.Bank tasks by command previous content bank = λ x e a. default_apart slots x (bank refl) a
 own_new slots keys.Importance tasks by command previous content bank =
     by_cases (command == 200)

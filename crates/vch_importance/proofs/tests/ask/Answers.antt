@@ -1,5 +1,5 @@
 use Rattle.std.proofs.Common.{Ok, ap, arith, ◌∙◌}
-use Rattle.vch_intern.proofs.Plays.{played, played_value}
+use Rattle.vch_intern.proofs.CallerLemmas.{played, played_value}
 use Rattle.vch_importance.proofs.tests.ask.Goals as goal
 
 pub returns-then-handle-lt8-clause-played : goal.returns-then-handle-lt8-clause-played
