@@ -1,11 +1,14 @@
 -- The sequential store.
-use Rattle.std.specs.Prelude.{ℕ, ◌+◌, ◌-◌, Bool, true, false, ◌==◌, nat_lt, ◌&&◌, ◌||◌, if◌then◌else◌, List, [], ◌∷◌, ◌++◌, map, slice_set, slice_index_or, Option, Some, None}
-use Rattle.std.specs.List.{list_any}
+use Rattle.std.specs.Prelude.{ℕ, ◌+◌, ◌-◌, Bool, true, false, ◌==◌, nat_lt, ◌&&◌, ◌||◌, if◌then◌else◌, List, [], ◌∷◌, ◌++◌, length, map, min, not, Option, Some, None}
+use Rattle.std.specs.List.{list_any, list_all}
 use Rattle.vch_base.specs.declared.key.Key.{Key}
-use Rattle.vch_base.specs.Keys.{key_of}
+use Rattle.vch_base.specs.Keys.{number_of, every_key, key_numbered}
+use Rattle.vch_base.specs.Keyed.{of_key}
+use Rattle.vch_base.specs.declared.limits.TheConstants.{USUAL_QUEUE}
+use Rattle.vch_base.specs.Tasks.{at_task, set_task}
 use Rattle.vch_base.specs.declared.value.Value.{Value}
 use Rattle.vch_model.specs.declared.lists.Scenario.{Scenario}
-use Rattle.vch_model.specs.Voucher.{Voucher, value_at, equal_options, equal_vouchers}
+use Rattle.vch_model.specs.Voucher.{Voucher, equal_options, equal_vouchers}
 use Rattle.vch_base.specs.Values.{equal_values, is_default}
 
 -- a name of a task
@@ -44,10 +47,17 @@ abbrev pub start : Scenario → Store
 start sc = record { tasks = map (λ _. nobody) sc.flags; live = [] }
 
 abbrev pub member : Store → ℕ → Member
-member s t = slice_index_or s.tasks (t - 1) nobody
+member s t = at_task s.tasks t nobody
 
 abbrev pub set_member : Store → ℕ → Member → Store
-set_member s t m = record s { tasks = slice_set s.tasks (t - 1) m }
+set_member s t m = record s { tasks = set_task s.tasks t m }
+
+-- how many messages the queue of a task may have, and whether it has them. The limits are this project's own
+abbrev pub limit_of : Scenario → ℕ → ℕ
+limit_of sc t = at_task sc.queues t USUAL_QUEUE
+
+abbrev pub is_full : Scenario → Store → ℕ → Bool
+is_full sc s t = not (nat_lt (length (member s t).queue) (limit_of sc t))
 
 -- the voucher of a name
 abbrev pub voucher_of : List Named → ℕ → Option Voucher
@@ -86,9 +96,32 @@ gives_name s t v = name_for (member s t) (name_of (member s t).names v)
 abbrev pub given : Store → ℕ → Voucher → Store
 given s t v = set_member s t (with_name (member s t) v (name_of (member s t).names v))
 
+-- the lower of a name and of one that may not be there
+abbrev pub lower : ℕ → Option ℕ → ℕ
+lower name None = name
+lower name (Some other) = min name other
+
+-- the lowest name, where there is one
+abbrev pub lowest : List Named → Option ℕ
+lowest [] = None
+lowest (n ∷ names) = Some (lower n.name (lowest names))
+
+-- without a name, whatever its user references
+abbrev pub without_name : List Named → ℕ → List Named
+without_name [] name = []
+without_name (n ∷ names) name = if n.name == name then names else n ∷ without_name names name
+
+abbrev pub is_empty : {A : Type 0} → List A → Bool
+is_empty [] = true
+is_empty (x ∷ xs) = false
+
+-- a task without a name and without a message
+abbrev pub has_nothing : Member → Bool
+has_nothing m = is_empty m.names && is_empty m.queue
+
 -- the voucher has the value at the key
 abbrev pub has_value : Key → Value → Voucher → Bool
-has_value k x v = equal_options (value_at k v) (Some x)
+has_value k x v = equal_options (of_key k v) (Some x)
 
 abbrev pub message_has : Key → Value → Option Voucher → Bool
 message_has k x None = false
@@ -103,7 +136,7 @@ is_held_by s None x = false
 is_held_by s (Some k) x = is_held_at s k x
 
 abbrev pub is_held : Store → ℕ → Value → Bool
-is_held s k x = is_held_by s (key_of k) x
+is_held s k x = is_held_by s (key_numbered k) x
 
 abbrev pub is_alive : ℕ → Value → Alive → Bool
 is_alive k x l = (l.key == k) && equal_values l.value x
@@ -117,4 +150,4 @@ option_live s k None = true
 option_live s k (Some x) = is_live s k x
 
 abbrev pub all_live : Store → Voucher → Bool
-all_live s v = option_live s 2 v.importance && (option_live s 3 v.bank && option_live s 7 v.user)
+all_live s v = list_all (λ k. option_live s (number_of k) (of_key k v)) every_key

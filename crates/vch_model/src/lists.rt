@@ -30,7 +30,7 @@ impl<T: Drop> Items<T> {
         }
     }
 
-    /// Appends an item, in constant time on the average. The one error is want of memory.
+    /// Appends an item, in constant time on the average. The one error is out of memory.
     pub fn push(&mut self, item: T) -> Result<(), NoMemory>
         ensures ok { OnOk result (self.new ≡ self.old ++ item ∷ []) }
         ensures err { OnErr result (self.new ≡ self.old) }
@@ -58,6 +58,9 @@ impl<T: Drop> Items<T> {
 /// The flags of the tasks 1, 2, 3 and so on.
 pub type FlagList = Items<Flags>;
 
+/// The queue limits of the tasks 1, 2, 3 and so on.
+pub type QueueList = Items<u32>;
+
 /// The lines of one phase, in their order.
 pub type LineList = Items<Line>;
 
@@ -68,7 +71,7 @@ pub type PhaseList = Items<LineList>;
 pub type TotalList = Items<Total>;
 
 impl PhaseList {
-    /// Appends a line to the last phase. The one error is want of memory.
+    /// Appends a line to the last phase. The one error is out of memory.
     pub fn add_line(&mut self, line: Line) -> Result<(), NoMemory>
         requires { 1 ≤ length self.old }
         ensures ok { OnOk result (self.new ≡ with_line self.old line) }
@@ -79,9 +82,12 @@ impl PhaseList {
     }
 }
 
-/// The tasks' flags, and the calls of each phase.
+/// The version of its text, each task's flags and the messages that its queue may have, and the calls of each phase.
+/// In version 1 each queue may have five messages, and there is no exit.
 #[derive(Drop)]
 pub struct Scenario {
+    pub version: u32,
     pub flags: FlagList,
+    pub queues: QueueList,
     pub phases: PhaseList,
 }
