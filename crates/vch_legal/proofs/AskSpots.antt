@@ -5,10 +5,11 @@ use Rattle.vch_machine.specs.State.{Place, same_place, Living, Claim, Frame, Mac
 use Rattle.vch_machine.specs.Frames.{with_frame}
 use Rattle.vch_machine.specs.Leaving.{is_fixed, is_fixed_value, do_ask, with_answer, released}
 use Rattle.vch_legal.specs.Facts.{Spot, spot, spot_fits}
+use Rattle.vch_legal.proofs.Choices.{cases_bool}
 use Rattle.vch_legal.proofs.SpotSteps.{agreed_at, refused_at}
 use Rattle.vch_legal.proofs.Places.{same_place_eq, same_place_refl}
 use Rattle.vch_legal.proofs.FrameSpots.{kept_named, others_expect, claims_before, claims_behind, spot_set, spot_same, task_in_range}
-use Rattle.vch_legal.proofs.EventSpots.{AllFit, cases_bool, fits_of, claimed_before, claimed_spot, one_claim_other}
+use Rattle.vch_legal.proofs.EventSpots.{AllFit, fits_of, claimed_before, claimed_spot, one_claim_other}
 
 pub without_here : (live : List Living) (q : Place) → living_at (without_place live q) q ≡ None
 without_here [] q = refl

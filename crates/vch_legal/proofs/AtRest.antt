@@ -1,8 +1,7 @@
--- Where no task has a next event: no frame is there, each call of the phase is answered, and each listed value is
--- held.
+-- Where all tasks are at rest: no frame is there, each call of the phase is answered, and each listed value is held.
 use Rattle.std.proofs.Common.{◌≡◌, ℕ, zero, suc, ◌+◌, ◌<◌, ◌≤◌, Bool, List, [], ◌∷◌, ◌++◌, refl, true, false, not, ◌&&◌, ◌||◌, arith, sym, ap, ◌∙◌, subst, length, get_or, Some, None, Option}
 use Rattle.std.specs.Prelude.{if◌then◌else◌, ◌==◌, nat_lt, is_some}
-use Rattle.std.specs.List.{list_any}
+use Rattle.std.specs.List.{list_any, list_all}
 use Rattle.vch_base.specs.declared.key.Key.{Key}
 use Rattle.vch_base.specs.declared.key.Key.TheVariants as keys
 use Rattle.vch_base.specs.declared.kind.Kind.TheVariants as kinds
@@ -16,13 +15,13 @@ use Rattle.vch_model.specs.declared.lists.Scenario.{Scenario}
 use Rattle.vch_model.specs.Store as store
 use Rattle.vch_model.specs.Legal.{EachTask, all_held}
 use Rattle.vch_model.specs.Lines.{calls_in, phases_in, is_task, lines_until}
-use Rattle.vch_machine.specs.State.{Handles, Place, Living, Named, Claim, Frame, Tasked, Machine, idle, tasked, seen, living_at, handle_of, member_of, task_holds, frame_holds, is_empty, default_place, default_living}
-use Rattle.vch_machine.specs.Events.{ready, numbers}
+use Rattle.vch_machine.specs.State.{Handles, Place, Living, Named, Claim, Frame, Tasked, Machine, idle, tasked, seen, living_at, handle_of, task_holds, frame_holds, is_empty, default_place, default_living}
+use Rattle.vch_machine.specs.Events.{numbers, is_at_rest, all_at_rest}
 use Rattle.vch_machine.specs.Leaving.{is_fixed, is_fixed_value}
-use Rattle.vch_machine.specs.Next.{next_kind, task_next, nth_call, call_next, formed_next, lets_next, unclaimed_next, frame_next}
+use Rattle.vch_machine.specs.Next.{nth_call, call_next, unanswered_next, lets_next, unclaimed_next, frame_next}
 use Rattle.vch_legal.specs.Facts.{Fits, bit}
-use Rattle.vch_legal.specs.Tie.{FrameForms, IsForming, is_answering, is_open, IsOpen, any_frame}
-use Rattle.vch_legal.proofs.EventSpots.{cases_bool}
+use Rattle.vch_legal.specs.Tie.{FrameForms, IsForming, is_answering, is_open, any_frame}
+use Rattle.vch_legal.proofs.Choices.{cases_bool, number_eq, and_left, and_right}
 use Rattle.vch_legal.proofs.StartFits.{rest_held}
 use Rattle.vch_legal.proofs.SeenHeld.{seen_held, vouchers_hold}
 use Rattle.vch_legal.proofs.SeenValues.{at_most_once, each_of, all_listed, found_place}
@@ -33,74 +32,75 @@ keys_next : (b : Bool) → is_some (if b then Some kinds.Place else Some kinds.M
 keys_next true = refl
 keys_next false = refl
 
--- a call that forms a voucher always has an event
-call_has_next : (names : List Named) (place : ℕ) (ks : List Key) (call : Call)
-    → is_some (call_next names place ks (Some call)) ≡ true
-call_has_next names place ks (calls.Create bytes) = refl
-call_has_next names place ks (calls.GiveUp name) = keys_next (is_empty ks)
-call_has_next names place ks (calls.Extract name key) = keys_next (is_empty ks)
-call_has_next names place ks (calls.Recipes name) = keys_next (is_empty ks)
-call_has_next names place ks (calls.Send to moving name id) = keys_next (is_empty ks)
-call_has_next names place ks calls.Recv = keys_next (is_empty ks)
-call_has_next names place ks (calls.Extern name adding n) = keys_next (is_empty ks)
-call_has_next names place ks (calls.Charge name n) = keys_next (is_empty ks)
-call_has_next names place ks calls.Ledger = keys_next (is_empty ks)
-call_has_next names place ks calls.Assertions = keys_next (is_empty ks)
-call_has_next names place ks calls.Live = keys_next (is_empty ks)
+-- a call that is not answered always has an event
+call_has_next : (version : ℕ) (names : List Named) (place : ℕ) (ks : List Key) (call : Call)
+    → is_some (call_next version names place ks (Some call)) ≡ true
+call_has_next version names place ks (calls.Create bytes) = refl
+call_has_next version names place ks (calls.GiveUp name) = keys_next (is_empty ks)
+call_has_next version names place ks (calls.Extract name key) = keys_next (is_empty ks)
+call_has_next version names place ks (calls.Recipes name) = keys_next (is_empty ks)
+call_has_next version names place ks (calls.Send to moving name id) = keys_next (is_empty ks)
+call_has_next version names place ks calls.Recv = keys_next (is_empty ks)
+call_has_next version names place ks (calls.Extern name adding n) = keys_next (is_empty ks)
+call_has_next version names place ks (calls.Charge name n) = keys_next (is_empty ks)
+call_has_next version names place ks calls.Ledger = keys_next (is_empty ks)
+call_has_next version names place ks calls.Assertions = keys_next (is_empty ks)
+call_has_next version names place ks calls.Live = keys_next (is_empty ks)
+call_has_next version names place ks calls.Exit = refl
 
 -- so has a frame
-formed_has_next : (sc : Scenario) (live : List Living) (x : store.Member) (t begun : ℕ) (names : List Named)
-    (f : Frame) (v : Option Handles) (call : Option Call) → is_some v ≡ true
-    → FrameForms sc live x t f.at_byte f.keys f.receipt v call → is_some (formed_next names f call v) ≡ true
-formed_has_next sc live x t begun names f None call e h = cc
-formed_has_next sc live x t begun names f (Some v) None e h = absurd h
-formed_has_next sc live x t begun names f (Some v) (Some call) e h = call_has_next names f.at_byte f.keys call
+unanswered_has_next : (sc : Scenario) (live : List Living) (x : store.Member) (t : ℕ) (names : List Named)
+    (f : Frame) (v : Option Handles) (call : Option Call) (answered : Bool) → not answered ≡ true
+    → FrameForms sc live x t f.at_byte f.keys f.receipt answered v call
+    → is_some (unanswered_next sc.version names f call answered) ≡ true
+unanswered_has_next sc live x t names f v call true e h = cc
+unanswered_has_next sc live x t names f v (Some call) false e h = call_has_next sc.version names f.at_byte f.keys call
+unanswered_has_next sc live x t names f (Some v) None false e h = absurd h
+unanswered_has_next sc live x t names f None None false e h = let k : None ≡ Some calls.Exit = h in cc
 
 pub frame_has_next : (sc : Scenario) (live : List Living) (x : store.Member) (t begun : ℕ) (names : List Named)
     (f : Frame) → IsForming sc live x t begun (Some f) → is_open f ≡ true
-    → is_some (frame_next names f (nth_call sc t begun) f.receipt) ≡ true
+    → is_some (frame_next sc.version names f (nth_call sc t begun) f.receipt) ≡ true
 frame_has_next sc live x t begun names f forming h = by_receipt f.receipt h
   where
-    by_lets : (lets : List Place) → (is_some f.forming || not (is_empty lets)) ≡ true
-        → is_some (lets_next names f (nth_call sc t begun) lets) ≡ true
+    by_lets : (lets : List Place) → (not f.answered || not (is_empty lets)) ≡ true
+        → is_some (lets_next sc.version names f (nth_call sc t begun) lets) ≡ true
     by_lets (p ∷ rest) h = refl
-    by_lets [] h = formed_has_next sc live x t begun names f f.forming (nth_call sc t begun)
-        (no_more (is_some f.forming) h) forming
+    by_lets [] h = unanswered_has_next sc live x t names f f.forming (nth_call sc t begun) f.answered
+        (no_more (not f.answered) h) forming
       where
         no_more : (a : Bool) → (a || false) ≡ true → a ≡ true
         no_more a h = grind arith
 
-    by_claim : (c : Option Claim) → (is_some f.forming || (is_some c || not (is_empty f.lets))) ≡ true
-        → is_some (unclaimed_next names f (nth_call sc t begun) c) ≡ true
+    by_claim : (c : Option Claim) → (not f.answered || (is_some c || not (is_empty f.lets))) ≡ true
+        → is_some (unclaimed_next sc.version names f (nth_call sc t begun) c) ≡ true
     by_claim (Some c) h = refl
     by_claim None h = by_lets f.lets h
 
-    by_receipt : (r : Option Place) → (is_some f.forming || (is_some r || (is_some f.claim || not (is_empty f.lets))))
-        ≡ true → is_some (frame_next names f (nth_call sc t begun) r) ≡ true
+    by_receipt : (r : Option Place) → (not f.answered || (is_some r || (is_some f.claim || not (is_empty f.lets))))
+        ≡ true → is_some (frame_next sc.version names f (nth_call sc t begun) r) ≡ true
     by_receipt (Some q) h = refl
     by_receipt None h = by_claim f.claim h
 
--- a task without a next event
+-- a task at rest
 pub record Rests (sc : Scenario) (m : Machine) (t : ℕ) : Type 0 where
   pub frame : (tasked m t).frame ≡ None
   pub begun : nat_lt (tasked m t).begun (lines_until sc (phases_in m.past + 1) t) ≡ false
 
-pub task_rests : (sc : Scenario) (m : Machine) (t : ℕ) → Before sc t m → is_some (next_kind sc m t) ≡ false
+pub task_rests : (sc : Scenario) (m : Machine) (t : ℕ) → is_at_rest sc (phases_in m.past) t (tasked m t) ≡ true
     → Rests sc m t
-task_rests sc m t s e = by_frame (tasked m t).frame refl e
+task_rests sc m t e = record {
+  frame = none (tasked m t).frame (and_left (not (is_some (tasked m t).frame)) _ e);
+  begun = not_so _ (and_right (not (is_some (tasked m t).frame)) _ e);
+}
   where
-    by_frame : (f : Option Frame) → (tasked m t).frame ≡ f → is_some
-        (task_next sc (phases_in m.past) t (tasked m t) f) ≡ false → Rests sc m t
-    by_frame None g h = record { frame = g; begun = none _ h }
-      where
-        none : (b : Bool) → is_some (if b then Some kinds.Begin else None) ≡ false → b ≡ false
-        none true h = cc
-        none false h = refl
-    by_frame (Some f) g h =
-        let k : is_some (frame_next (tasked m t).names f (nth_call sc t (tasked m t).begun) f.receipt) ≡ true =
-        frame_has_next sc m.live (member_of m.live (tasked m t)) t (tasked m t).begun (tasked m t).names f
-        (subst (λ (o : Option Frame). IsForming sc m.live (member_of m.live (tasked m t)) t (tasked m t).begun o) g
-        s.forming) (subst IsOpen g s.open_frame) in cc
+    none : (f : Option Frame) → not (is_some f) ≡ true → f ≡ None
+    none None h = refl
+    none (Some f) h = cc
+
+    not_so : (b : Bool) → not b ≡ true → b ≡ false
+    not_so true h = cc
+    not_so false h = refl
 
 -- a task that rests has answered all that it had to
 pub rest_answered : (sc : Scenario) (m : Machine) (t : ℕ) → Before sc t m → Rests sc m t → calls_in m.past t
@@ -114,46 +114,32 @@ rest_answered sc m t s r =
     not_below : (a b : ℕ) → nat_lt a b ≡ false → b ≤ a
     not_below a b h = grind arith
 
--- none of the tasks up to a number is ready
-empty_left : {A : Type 0} (xs ys : List A) → is_empty (xs ++ ys) ≡ true → is_empty xs ≡ true
-empty_left [] ys e = refl
-empty_left (x ∷ xs) ys e = e
-
-ready_append : (sc : Scenario) (m : Machine) (ts us : List ℕ) → ready sc m (ts ++ us) ≡ ready sc m ts ++ ready sc m us
-ready_append sc m [] us = refl
-ready_append sc m (t ∷ ts) us = by_test (is_some (next_kind sc m t)) (ready_append sc m ts us)
+-- what holds of the numbers up to one
+all_append : (p : ℕ → Bool) (ts us : List ℕ) → list_all p (ts ++ us) ≡ true
+    → (list_all p ts ≡ true) × (list_all p us ≡ true)
+all_append p [] us e = (refl, e)
+all_append p (t ∷ ts) us e =
+    let later : (list_all p ts ≡ true) × (list_all p us ≡ true) = all_append p ts us (and_right (p t) _ e) in
+    (both (and_left (p t) _ e) later.0, later.1)
   where
-    by_test : (b : Bool) → ready sc m (ts ++ us) ≡ ready sc m ts ++ ready sc m us
-        → (if b then t ∷ ready sc m (ts ++ us) else ready sc m (ts ++ us))
-        ≡ (if b then t ∷ ready sc m ts else ready sc m ts) ++ ready sc m us
-    by_test true i = ap (λ xs. t ∷ xs) i
-    by_test false i = i
+    both : {a b : Bool} → a ≡ true → b ≡ true → (a && b) ≡ true
+    both g h = rw (g, h) refl
 
-empty_right : {A : Type 0} (xs ys : List A) → is_empty (xs ++ ys) ≡ true → is_empty ys ≡ true
-empty_right [] ys e = e
-empty_right (x ∷ xs) ys e = cc
-
-pub none_ready : (sc : Scenario) (m : Machine) (n : ℕ) → is_empty (ready sc m (numbers n)) ≡ true → (t : ℕ) → 0 < t
-    → t ≤ n → is_some (next_kind sc m t) ≡ false
-none_ready sc m zero e t a b = absurd (omega arith)
-none_ready sc m (suc n) e t a b =
-    cases_bool (t == suc n) (is_some (next_kind sc m t) ≡ false)
-    (λ here. subst (λ i. is_some (next_kind sc m i) ≡ false) (sym (number t (suc n) here))
-    (last (is_some (next_kind sc m (suc n))) (empty_right (ready sc m (numbers n)) _ split)))
-    (λ other. none_ready sc m n (empty_left (ready sc m (numbers n)) _ split) t a (earlier t n b other))
+pub numbers_all : (p : ℕ → Bool) (n : ℕ) → list_all p (numbers n) ≡ true → (t : ℕ) → 0 < t → t ≤ n → p t ≡ true
+numbers_all p zero e t a b = absurd (omega arith)
+numbers_all p (suc n) e t a b =
+    cases_bool (t == suc n) (p t ≡ true)
+    (λ here. ap p (number_eq t (suc n) here) ∙ and_left (p (suc n)) true (all_append p (numbers n) (suc n ∷ []) e).1)
+    (λ other. numbers_all p n (all_append p (numbers n) (suc n ∷ []) e).0 t a (earlier t n b other))
   where
-    split : is_empty (ready sc m (numbers n) ++ ready sc m (suc n ∷ [])) ≡ true
-    split = ap is_empty (sym (ready_append sc m (numbers n) (suc n ∷ []))) ∙ e
-
-    number : (a b : ℕ) → (a == b) ≡ true → a ≡ b
-    number a b e = grind arith
-
     earlier : (a b : ℕ) → a ≤ suc b → (a == suc b) ≡ false → a ≤ b
     earlier a b h e = grind arith
 
-    last : (b : Bool) → is_empty (if b then suc n ∷ [] else []) ≡ true → b ≡ false
-    last true h = cc
-    last false h = refl
+-- where all are at rest, each task is
+pub each_rests : (sc : Scenario) (m : Machine) → all_at_rest sc m ≡ true → (t : ℕ) → 0 < t → t ≤ length sc.flags
+    → Rests sc m t
+each_rests sc m e t a b = task_rests sc m t (numbers_all (λ u. is_at_rest sc (phases_in m.past) u (tasked m u))
+    (length sc.flags) e t a b)
 
 -- a number of a task
 pub task_of : (sc : Scenario) (t : ℕ) → 0 < t → t ≤ length sc.flags → is_task sc t ≡ true
@@ -203,6 +189,8 @@ default_at sc m p a f e d = by_value p.key a.value refl refl (f.values p a e).be
         (λ (q : Place). living_at m.live q ≡ Some default_living) (sym five) f.default_live in
         ap (λ (l : Living). l.made) (some_eq (sym e ∙ six))
     by_value keys.Importance values.Default g h b d = absurd
+        (subst (λ (k : Key). Belongs k values.Default) g (subst (Belongs p.key) h b))
+    by_value keys.Test values.Default g h b d = absurd
         (subst (λ (k : Key). Belongs k values.Default) g (subst (Belongs p.key) h b))
     by_value keys.User values.Default g h b d = absurd
         (subst (λ (k : Key). Belongs k values.Default) g (subst (Belongs p.key) h b))

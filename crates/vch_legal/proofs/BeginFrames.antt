@@ -1,83 +1,104 @@
 -- Begin, to its own task, by call.
-use Rattle.std.proofs.Common.{◌≡◌, ℕ, ◌+◌, ◌-◌, ◌≤◌, Bool, List, [], ◌∷◌, ◌++◌, refl, true, false, not, ◌&&◌, ◌||◌, arith, sym, ap, ◌∙◌, subst, length, Some, None, Option}
+use Rattle.std.proofs.Common.{◌≡◌, ℕ, suc, ◌+◌, ◌≤◌, Bool, List, [], ◌∷◌, ◌++◌, refl, true, false, not, ◌&&◌, ◌||◌, sym, ap, ◌∙◌, subst, length, Some, None, Option}
 use Rattle.std.specs.Prelude.{if◌then◌else◌, ◌==◌, nat_lt, is_some}
+use Rattle.vch_legal.proofs.KeysThere.{sends_keys}
 use Rattle.vch_base.specs.declared.key.Key.{Key}
 use Rattle.vch_base.specs.declared.key.Key.TheVariants as keys
+use Rattle.vch_base.specs.Keys.{number_of, managed, key_among}
+use Rattle.vch_base.specs.declared.limits.TheConstants.{ARRAY_BYTES}
 use Rattle.vch_model.specs.declared.call.Call.{Call}
 use Rattle.vch_model.specs.declared.call.Call.TheVariants as calls
 use Rattle.vch_model.specs.declared.lists.Scenario.{Scenario}
-use Rattle.vch_model.specs.Voucher.{Voucher}
-use Rattle.vch_model.specs.Store.{member, voucher_of}
+use Rattle.vch_model.specs.Voucher.{Voucher, nothing}
+use Rattle.vch_model.specs.Store.{member, voucher_of, is_full}
 use Rattle.vch_model.specs.Transfer.{received_value, before, after}
 use Rattle.vch_base.specs.Managers.{sent}
 use Rattle.vch_model.specs.After.{is_want, queued, taken_first, received, placed, store_after_call}
 use Rattle.vch_model.specs.After as stores
 use Rattle.vch_model.specs.Lines.{is_task, phases_in, calls_in, lines_until}
 use Rattle.vch_model.specs.Legal.{voucher_sent}
-use Rattle.vch_machine.specs.State.{Handles, no_handles, Living, Tasked, Machine, tasked, seen, living_at, value_of, value_at, valued, valued_option, member_of, is_empty}
+use Rattle.vch_machine.specs.State.{Handles, no_handles, Living, Frame, Tasked, Machine, tasked, seen, living_at, value_of, value_at, valued, valued_option, member_of, is_empty}
 use Rattle.vch_machine.specs.Beginning.{begun_one, fresh_frame, key_if, store_reply, begin_call}
 use Rattle.vch_machine.specs.Frames.{with_frame, replied}
 use Rattle.vch_machine.specs.Naming.{handles_of}
 use Rattle.vch_legal.specs.Facts.{Fits, bit}
-use Rattle.vch_legal.specs.Tie.{Forms, IsForming, transfer_keys, is_answering, IsOpen}
-use Rattle.vch_legal.proofs.Forming.{LiveAt}
+use Rattle.vch_legal.specs.Tie.{AllAmong, Forms, IsForming, transfer_keys, is_answering, IsOpen}
+use Rattle.vch_legal.proofs.Forming.{LiveAt, eval_bound}
+use Rattle.vch_legal.proofs.Creates.{one_above, there_enough, reaches_bound}
 use Rattle.vch_legal.proofs.SeenNames.{LiveAll}
 use Rattle.vch_legal.proofs.SeenTasks.{seen_frame, own_task}
 use Rattle.vch_legal.proofs.HeldLive.{names_live}
-use Rattle.vch_legal.proofs.Records.{voucher_seen, LiveOption, named_live}
+use Rattle.vch_legal.proofs.Records.{voucher_seen, named_live}
+use Rattle.vch_legal.proofs.RecordChanges.{LiveOption}
 use Rattle.vch_legal.proofs.Follows.{Follows}
 use Rattle.vch_legal.proofs.Lifts.{Lives}
 use Rattle.vch_legal.proofs.Standing.{Step}
 use Rattle.vch_legal.proofs.Nexts.{forms_in}
 use Rattle.vch_legal.proofs.Refusals.{names_seen}
-use Rattle.vch_legal.proofs.BeginSteps.{Starting, counted, counted_seen, counted_task, start_number, quiet_answer, no_create, longer}
+use Rattle.vch_legal.proofs.BeginSteps.{Starting, counted, counted_seen, counted_task, start_number, quiet_answer, no_create}
+use Rattle.vch_legal.proofs.TaskItems.{still_in}
+use Rattle.vch_legal.proofs.Choices.{neither_left, neither_right}
 use Rattle.vch_legal.proofs.LeaveSteps.{step_if}
 
 -- a frame begins
+pub frame_begins : (sc : Scenario) (t : ℕ) (m : Machine) (call : Call) (g : Frame) → Starting sc t m call
+    → g.answered ≡ false → IsForming sc m.live (member_of m.live (tasked m t)) t ((tasked m t).begun + 1) (Some g)
+    → Step sc t m (with_frame (counted m t) t (Some g))
+frame_begins sc t m call g c unanswered forming = record {
+  follows = Follows.Quiet refl (seen_frame (counted m t) t (Some g) ∙ counted_seen m t);
+  lives = Lives.Same refl;
+  counted = ap (λ (x : Tasked). x.begun) own ∙ (ap (λ a. a + 1) (start_number sc t m call c)
+      ∙ (sym (ap (λ b. calls_in m.past t + bit (not b)) unanswered)
+      ∙ sym (ap (λ (x : Tasked). calls_in m.past t + bit (is_answering x.frame)) own)));
+  begun = subst (λ (x : Tasked). x.begun ≤ lines_until sc (phases_in m.past + 1) t) (sym own) c.more;
+  forming = subst (λ (x : Tasked). IsForming sc m.live (member_of m.live x) t x.begun x.frame) (sym own) forming;
+  open_frame = subst (λ (x : Tasked). IsOpen x.frame) (sym own) (opened g.answered unanswered _);
+}
+  where
+    opened : (a : Bool) → a ≡ false → (b : Bool) → (not a || b) ≡ true
+    opened a e b = rw e refl
+
+    own : tasked (with_frame (counted m t) t (Some g)) t ≡ record (begun_one (tasked m t)) { frame = Some g }
+    own = own_task (counted m t) t (record (tasked (counted m t) t) { frame = Some g })
+        (still_in m.tasks t t (begun_one (tasked m t)) c.range)
+        ∙ ap (λ (x : Tasked). record x { frame = Some g }) (counted_task m t c.range)
+
+-- of a call that forms a voucher
 pub framed_begin : (sc : Scenario) (t : ℕ) (m : Machine) (call : Call) (v : Handles) (ks : List Key)
     → Starting sc t m call → Forms sc (member_of m.live (tasked m t)) t call 0 ks (valued m.live v)
     → Step sc t m (with_frame (counted m t) t (Some (fresh_frame v ks)))
-framed_begin sc t m call v ks c forms = record {
-  follows = Follows.Quiet refl (seen_frame (counted m t) t (Some (fresh_frame v ks)) ∙ counted_seen m t);
-  lives = Lives.Same refl;
-  counted = ap (λ (x : Tasked). x.begun) own ∙ (ap (λ a. a + 1) (start_number sc t m call c)
-      ∙ sym (ap (λ (x : Tasked). calls_in m.past t + bit (is_answering x.frame)) own));
-  begun = subst (λ (x : Tasked). x.begun ≤ lines_until sc (phases_in m.past + 1) t) (sym own) c.more;
-  forming = subst (λ (x : Tasked). IsForming sc m.live (member_of m.live x) t x.begun x.frame) (sym own)
-      (forms_in sc m.live (member_of m.live (tasked m t)) t ((tasked m t).begun + 1) (fresh_frame v ks) v None call
-      refl refl c.there forms);
-  open_frame = subst (λ (x : Tasked). IsOpen x.frame) (sym own) refl;
-}
-  where
-    own : tasked (with_frame (counted m t) t (Some (fresh_frame v ks))) t
-        ≡ record (begun_one (tasked m t)) { frame = Some (fresh_frame v ks) }
-    own = own_task (counted m t) t (record (tasked (counted m t) t) { frame = Some (fresh_frame v ks) })
-        (longer m.tasks (t - 1) (begun_one (tasked m t)) c.range)
-        ∙ ap (λ (x : Tasked). record x { frame = Some (fresh_frame v ks) }) (counted_task m t c.range)
+framed_begin sc t m call v ks c forms =
+    frame_begins sc t m call (fresh_frame v ks) c refl
+    (forms_in sc m.live (member_of m.live (tasked m t)) t ((tasked m t).begun + 1) (fresh_frame v ks) v None call
+    refl refl c.there forms tt)
 
 pub create_begins : (sc : Scenario) (want : Bool) (t : ℕ) (m : Machine) (bytes : List ℕ)
     → Starting sc t m (calls.Create bytes)
     → Step sc t m (begin_call sc want (counted m t) t (calls.Create bytes) (store_reply sc m t (calls.Create bytes)))
 create_begins sc want t m bytes c =
-    step_if sc t m _ _ ((length bytes == 0) || nat_lt 5120 (length bytes))
-    (λ e. quiet_answer sc t m (calls.Create bytes) c
-    ((no_create (voucher_of (member (seen m) t).names) t bytes e).1 (seen m) t)
-    (no_create (voucher_of (member (seen m) t).names) t bytes e).0)
+    step_if sc t m _ _ ((length bytes == 0) || nat_lt ARRAY_BYTES (length bytes))
+    (λ e. quiet_answer sc t m (calls.Create bytes) c refl
+    ((no_create sc.version (voucher_of (member (seen m) t).names) t bytes e).1 (seen m) t)
+    (no_create sc.version (voucher_of (member (seen m) t).names) t bytes e).0)
     (λ e. framed_begin sc t m (calls.Create bytes) no_handles [] c
     (record {
-      some = left (length bytes == 0) (nat_lt 5120 (length bytes)) e;
-      few = right (length bytes == 0)
-          (nat_lt 5120 (length bytes)) e;
-      made = refl;
-      may = λ h. h;
+      some = neither_left (length bytes == 0) (nat_lt ARRAY_BYTES (length bytes)) e;
+      few = neither_right (length bytes == 0)
+          (nat_lt ARRAY_BYTES (length bytes)) e;
+      made = eval_bound sc.version (suc (length bytes)) (length bytes) _ t _ bytes (one_above bytes)
+          (there_enough bytes (neither_left (length bytes == 0) (nat_lt ARRAY_BYTES (length bytes)) e));
+      may = λ h. sym (reaches_bound sc.version (suc (length bytes)) (length bytes) _ t _ bytes (one_above bytes)
+          (there_enough bytes (neither_left (length bytes == 0) (nat_lt ARRAY_BYTES (length bytes)) e))) ∙ h;
+      evaluated = record { number = 0; before = nothing; records = refl; done = refl };
       fit = tt;
+      keys_managed = tt;
     }))
-  where
-    left : (a b : Bool) → (a || b) ≡ false → a ≡ false
-    left a b e = grind arith
 
-    right : (a b : Bool) → (a || b) ≡ false → b ≡ false
-    right a b e = grind arith
+-- a key that is asked where there is a value
+pub key_among_if : (all : List Key) (k : Key) (x : Option ℕ) → key_among all (number_of k) ≡ Some k
+    → AllAmong all (key_if k x)
+key_among_if all k None h = tt
+key_among_if all k (Some i) h = (h, tt)
 
 -- what asking the keys of a voucher makes of it
 sends_before : (live : List Living) (t : ℕ) (v : Handles) (x : Option ℕ) → v.bank ≡ x
@@ -128,9 +149,9 @@ pub named_begins : (sc : Scenario) (t : ℕ) (m : Machine) (to : ℕ) (moving : 
           ↦ with_frame (counted m t) t (Some (fresh_frame w (key_if keys.Bank w.bank)))
     ])
 named_begins sc t m to moving name id None fits c task named e =
-    quiet_answer sc t m (calls.Send to moving name id) c
-    (rw (task, named) (ap (stores.sent (seen m) t to moving name id) unknown))
-    (ap (λ o. if is_task sc to && (not (name == 0) && nat_lt (length (member (seen m) to).queue) 5) then voucher_sent
+    quiet_answer sc t m (calls.Send to moving name id) c refl
+    (rw (task, named) (ap (stores.sent sc (seen m) t to moving name id) unknown))
+    (ap (λ o. if is_task sc to && (not (name == 0) && not (is_full sc (seen m) to)) then voucher_sent
     t o else None) unknown ∙ none_either _)
   where
     unknown : voucher_of (member (seen m) t).names name ≡ None
@@ -147,7 +168,9 @@ named_begins sc t m to moving name id (Some w) fits c task named e =
       voucher = valued m.live w;
       known = voucher_seen m.live (tasked m t).names name ∙ ap (valued_option m.live) e;
       made = sends_before m.live t w w.bank refl;
-      asked = bank_there m.live w w.bank refl live.bank;
+      evaluated = ([], sends_keys m.live w live, refl);
+      asked = bank_there m.live w w.bank refl (live keys.Bank);
+      keys_managed = key_among_if (managed sc.version) keys.Bank w.bank refl;
     })
   where
     live : LiveAll m.live w

@@ -3,9 +3,9 @@ use Rattle.std.proofs.Common.{◌≡◌, ℕ, ◌+◌, ◌≤◌, Bool, List, []
 use Rattle.std.specs.Prelude.{is_some, if◌then◌else◌}
 use Rattle.vch_machine.specs.State.{Place, same_place, Living, Claim, living_at, without_place, is_empty}
 use Rattle.vch_legal.specs.Facts.{spot_fits, burden, total, bit, times}
+use Rattle.vch_legal.proofs.Choices.{cases_bool}
 use Rattle.vch_legal.proofs.SpotSteps.{one, fresh, raced_now, back_now}
 use Rattle.vch_legal.proofs.Places.{same_place_eq, same_place_refl, same_place_comm}
-use Rattle.vch_legal.proofs.EventSpots.{cases_bool}
 
 -- a Make of a live value
 pub made_burden : (live fixed held expected now : Bool) (cs : List Claim)

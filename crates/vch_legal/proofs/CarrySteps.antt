@@ -1,8 +1,8 @@
 -- The end of a send and of a recv, to its own task.
-use Rattle.std.proofs.Common.{◌≡◌, inl, ℕ, ◌-◌, ◌<◌, Bool, List, [], ◌∷◌, ◌++◌, refl, true, false, not, ◌||◌, arith, sym, ap, ◌∙◌, subst, length, map, Some, None}
-use Rattle.std.proofs.lemmas.List.{length-set}
-use Rattle.std.specs.Prelude.{if◌then◌else◌, nat_lt, is_some, pos}
+use Rattle.std.proofs.Common.{◌≡◌, inl, ℕ, ◌≤◌, Bool, List, [], ◌∷◌, ◌++◌, refl, true, false, not, sym, ap, ◌∙◌, subst, map, Some, None}
+use Rattle.std.specs.Prelude.{if◌then◌else◌, is_some}
 use Rattle.vch_base.specs.declared.key.Key.{Key}
+use Rattle.vch_base.specs.declared.codes.TheConstants.{MACH_SEND_TIMED_OUT}
 use Rattle.vch_base.specs.declared.kind.Kind.TheVariants as kinds
 use Rattle.vch_model.specs.declared.call.Call.TheVariants as calls
 use Rattle.vch_model.specs.declared.entry.Reply.TheVariants as replies
@@ -10,7 +10,7 @@ use Rattle.vch_model.specs.declared.lists.Scenario.{Scenario}
 use Rattle.vch_model.specs.Voucher.{Voucher}
 use Rattle.vch_model.specs.Store.{Store, Member, member, voucher_of, given, gives_name}
 use Rattle.vch_model.specs.Transfer.{after}
-use Rattle.vch_model.specs.After.{queued, let_go, sent, received, store_after_call}
+use Rattle.vch_model.specs.After.{appended, let_go, sent, received, store_after_call}
 use Rattle.vch_model.specs.Replies.{refused, receiving, reply_to}
 use Rattle.vch_model.specs.Legal.{option_all_live, voucher_given, voucher_received}
 use Rattle.vch_machine.specs.State.{Handles, Frame, Tasked, Machine, Message, tasked, with_tasked, seen, valued, valued_option, message_of, member_of, is_empty}
@@ -21,11 +21,13 @@ use Rattle.vch_machine.specs.Placing.{moved_name, place_send, place_recv, do_pla
 use Rattle.vch_machine.specs.Next.{call_next}
 use Rattle.vch_legal.specs.Facts.{Fits}
 use Rattle.vch_legal.specs.Tie.{FormsSend, FormsRecv, first_in}
-use Rattle.vch_legal.proofs.FrameSpots.{task_in_range}
+use Rattle.vch_legal.proofs.TaskItems.{still_in}
+use Rattle.vch_legal.proofs.TaskLists.{IsAmong}
+use Rattle.vch_legal.proofs.Choices.{or_right}
 use Rattle.vch_legal.proofs.OwnTask.{Near, near_self, near_queued, near_own, near_then, named_begun}
 use Rattle.vch_legal.proofs.SeenNames.{LiveAll, AllLive}
-use Rattle.vch_legal.proofs.SeenTasks.{member_seen, own_task}
-use Rattle.vch_legal.proofs.SeenCalls.{seen_given, gives_seen, seen_less, room_seen, seen_queued, seen_taken, replaced}
+use Rattle.vch_legal.proofs.SeenTasks.{member_seen, own_task, frame_in}
+use Rattle.vch_legal.proofs.SeenCalls.{seen_given, gives_seen, seen_less, full_seen, seen_queued, seen_taken, replaced}
 use Rattle.vch_legal.proofs.SeenValues.{voucher_lives}
 use Rattle.vch_legal.proofs.HeldLive.{forming_live, names_live}
 use Rattle.vch_legal.proofs.Records.{seen_names}
@@ -40,14 +42,6 @@ place_keys false e = cc
 no_keys : (ks : List Key) → is_empty ks ≡ true → ks ≡ []
 no_keys [] e = refl
 no_keys (k ∷ ks) e = cc
-
-not_full : (b : Bool) → not b ≡ false → b ≡ true
-not_full true e = refl
-not_full false e = cc
-
-full : (b : Bool) → not b ≡ true → b ≡ false
-full true e = cc
-full false e = refl
 
 -- what a send has come to
 abbrev Sends : Scenario → ℕ → Machine → ℕ → ℕ → Handles → Type 0
@@ -74,50 +68,51 @@ moved_seen t m true name = seen_less m t name
 moved_seen t m false name = refl
 
 send_store : (sc : Scenario) (t : ℕ) (m : Machine) (to : ℕ) (moving : Bool) (name id : ℕ) (v : Handles)
-    → Sends sc t m to name v → nat_lt (length (tasked m to).queue) 5 ≡ true
+    → Sends sc t m to name v → is_full sc m to ≡ false
     → seen (moved_name (enqueued m to (sent_message t id v)) t moving name)
     ≡ store_after_call sc (seen m) t (calls.Send to moving name id)
 send_store sc t m to moving name id v s room =
     moved_seen t (enqueued m to (sent_message t id v)) moving name
     ∙ (ap (λ x. if moving then let_go x t name else x)
-    (seen_queued m to (sent_message t id v) room ∙ ap
-    (λ w. queued (seen m) to (record { sender = t; id = id; voucher = Some w })) s.made)
-    ∙ sym (rw (s.to_task, s.is_named) (ap (sent (seen m) t to moving name id) (known_name sc t m to name v s)
-    ∙ if_true _ (seen m) (room_seen m to ∙ room))))
+    (seen_queued m to (sent_message t id v) ∙ ap
+    (λ w. appended (seen m) to (record { sender = t; id = id; voucher = Some w })) s.made)
+    ∙ sym (rw (s.to_task, s.is_named) (ap (sent sc (seen m) t to moving name id) (known_name sc t m to name v s)
+    ∙ if_false (seen m) _ (full_seen sc m to ∙ room))))
   where
-    if_true : {b : Bool} (x y : Store) → b ≡ true → (if b then x else y) ≡ x
-    if_true x y e = rw e refl
+    if_false : {b : Bool} (x y : Store) → b ≡ false → (if b then x else y) ≡ y
+    if_false x y e = rw e refl
 
-send_reply : (sc : Scenario) (t : ℕ) (m : Machine) (to : ℕ) (moving : Bool) (name id : ℕ) (v : Handles) (room : Bool)
-    → Sends sc t m to name v → nat_lt (length (tasked m to).queue) 5 ≡ room
+send_reply : (sc : Scenario) (t : ℕ) (m : Machine) (to : ℕ) (moving : Bool) (name id : ℕ) (v : Handles) (full : Bool)
+    → Sends sc t m to name v → is_full sc m to ≡ full
     → reply_to sc m.past (seen m) t (calls.Send to moving name id)
-    ≡ (if room then replies.Done else refused (pos 268435460))
-send_reply sc t m to moving name id v room s e = rw
-    (s.to_task, s.is_named, known_name sc t m to name v s, room_seen m to, e) refl
+    ≡ (if full then refused MACH_SEND_TIMED_OUT else replies.Done)
+send_reply sc t m to moving name id v full s e = rw
+    (s.to_task, s.is_named, known_name sc t m to name v s, full_seen sc m to, e) refl
 
 send_given : (sc : Scenario) (t : ℕ) (m : Machine) (to : ℕ) (moving : Bool) (name id : ℕ) (v : Handles)
-    → Sends sc t m to name v → nat_lt (length (tasked m to).queue) 5 ≡ true
+    → Sends sc t m to name v → is_full sc m to ≡ false
     → voucher_given sc (seen m) t (calls.Send to moving name id) ≡ Some (valued m.live v)
 send_given sc t m to moving name id v s e = rw
-    (s.to_task, s.is_named, room_seen m to, e, known_name sc t m to name v s) (ap Some (sym s.made))
+    (s.to_task, s.is_named, full_seen sc m to, e, known_name sc t m to name v s) (ap Some (sym s.made))
 
 send_none : (sc : Scenario) (t : ℕ) (m : Machine) (to : ℕ) (moving : Bool) (name id : ℕ) (v : Handles)
-    → Sends sc t m to name v → nat_lt (length (tasked m to).queue) 5 ≡ false
+    → Sends sc t m to name v → is_full sc m to ≡ true
     → voucher_given sc (seen m) t (calls.Send to moving name id) ≡ None
-send_none sc t m to moving name id v s e = rw (s.to_task, s.is_named, room_seen m to, e) refl
+send_none sc t m to moving name id v s e = rw (s.to_task, s.is_named, full_seen sc m to, e) refl
 
 send_place : (sc : Scenario) (t : ℕ) (m : Machine) (f : Frame) (v : Handles) (to : ℕ) (moving : Bool) (name id : ℕ)
     → Fits sc m → Calling sc t m f (calls.Send to moving name id) → f.forming ≡ Some v
-    → Sends sc t m to name v → nat_lt (length (tasked m to).queue) 5 ≡ true
+    → Sends sc t m to name v → is_full sc m to ≡ false
     → Step sc t m (place_send m t f v (calls.Send to moving name id) to moving name id)
 send_place sc t m f v to moving name id fits c forming s room =
     placed_step sc t m mid f (doubled m v ++ orphaned mid (handles_of (tasked m t).names name))
     (calls.Send to moving name id) replies.Done c
     (moved_past t (enqueued m to (sent_message t id v)) moving name) near.live
-    (subst (λ i. t - 1 < i) (sym near.tasks) (task_in_range m t f c.frame)) near.begun
+    ((frame_in m t f c.frame).0, subst (λ i. t ≤ i) (sym near.tasks) (frame_in m t f c.frame).1) near.begun
     (send_store sc t m to moving name id v s room)
     (inl (
-      sym (send_reply sc t m to moving name id v true s room),
+      refl,
+      sym (send_reply sc t m to moving name id v false s room),
       ap (option_all_live (seen m)) (send_given sc t m to moving name id v s room)
           ∙ voucher_lives sc m v fits (forming_live sc m t f v fits c.frame forming),
     ))
@@ -132,40 +127,38 @@ send_place sc t m f v to moving name id fits c forming s room =
 -- a full queue is the store's refusal
 send_full : (sc : Scenario) (t : ℕ) (m : Machine) (f : Frame) (v : Handles) (to : ℕ) (moving : Bool) (name id : ℕ)
     → Calling sc t m f (calls.Send to moving name id)
-    → Sends sc t m to name v → nat_lt (length (tasked m to).queue) 5 ≡ false
-    → Step sc t m (refuse m t f (calls.Send to moving name id) (pos 268435460))
+    → Sends sc t m to name v → is_full sc m to ≡ true
+    → Step sc t m (refuse m t f (calls.Send to moving name id) MACH_SEND_TIMED_OUT)
 send_full sc t m f v to moving name id c s none =
-    refuse_step sc t m f (calls.Send to moving name id) (pos 268435460) c
-    (rw (s.to_task, s.is_named) (ap (sent (seen m) t to moving name id) (known_name sc t m to name v s)
-    ∙ if_false _ (seen m) (room_seen m to ∙ none)))
+    refuse_step sc t m f (calls.Send to moving name id) MACH_SEND_TIMED_OUT c
+    (rw (s.to_task, s.is_named) (ap (sent sc (seen m) t to moving name id) (known_name sc t m to name v s)
+    ∙ if_true (seen m) _ (full_seen sc m to ∙ none)))
     (inl (
-      sym (send_reply sc t m to moving name id v false s none),
+      refl,
+      sym (send_reply sc t m to moving name id v true s none),
       ap (option_all_live (seen m))
           (send_none sc t m to moving name id v s none),
     ))
   where
-    if_false : {b : Bool} (x y : Store) → b ≡ false → (if b then x else y) ≡ y
-    if_false x y e = rw e refl
+    if_true : {b : Bool} (x y : Store) → b ≡ true → (if b then x else y) ≡ x
+    if_true x y e = rw e refl
 
 pub send_ends : (sc : Scenario) (want : Bool) (t : ℕ) (m : Machine) (f : Frame) (v : Handles) (to : ℕ) (moving : Bool)
     (name id : ℕ) → Fits sc m → Calling sc t m f (calls.Send to moving name id) → f.forming ≡ Some v
     → FormsSend sc (seen_names m.live (tasked m t).names) t to name f.keys (valued m.live v)
-    → call_next (tasked m t).names f.at_byte f.keys (Some (calls.Send to moving name id)) ≡ Some kinds.Place
-    → IsStep sc t m (do_place want m t f v (calls.Send to moving name id))
+    → call_next sc.version (tasked m t).names f.at_byte f.keys (Some (calls.Send to moving name id)) ≡ Some kinds.Place
+    → IsStep sc t m (do_place sc want m t f v (calls.Send to moving name id))
 send_ends sc want t m f v to moving name id fits c forming forms next =
-    is_step_if sc t m _ _ (is_full m to)
-    (λ e. send_full sc t m f v to moving name id c s (full _ e))
+    is_step_if sc t m _ _ (is_full sc m to)
+    (λ e. send_full sc t m f v to moving name id c s e)
     (λ e. is_step_if sc t m _ _ want
     (λ _. send_wants sc t m f to moving name id s.voucher c s.to_task s.is_named s.known
-    (or_right (is_some s.voucher.bank) _ (room_seen m to ∙ not_full _ e)))
-    (λ _. send_place sc t m f v to moving name id fits c forming s (not_full _ e)))
+    (or_right (is_some s.voucher.bank) _ (ap not (full_seen sc m to ∙ e))))
+    (λ _. send_place sc t m f v to moving name id fits c forming s e))
   where
     s : Sends sc t m to name v
     s = subst (λ (ks : List Key). FormsSend sc (seen_names m.live (tasked m t).names) t to name ks (valued m.live v))
         (no_keys f.keys (place_keys _ next)) forms
-
-    or_right : (a b : Bool) → b ≡ true → (a || b) ≡ true
-    or_right a b e = grind arith
 
 -- what a recv has come to
 abbrev Receives : Scenario → ℕ → Machine → Handles → Type 0
@@ -173,7 +166,7 @@ Receives sc t m v = FormsRecv sc (member_of m.live (tasked m t)).queue t [] (val
 
 -- the store where the first message is taken and its voucher is given to the task
 recv_store : (sc : Scenario) (t : ℕ) (m : Machine) (v : Handles) (q : Message) (queue : List Message) (w : Voucher)
-    → Fits sc m → LiveAll m.live v → t - 1 < length m.tasks
+    → Fits sc m → LiveAll m.live v → IsAmong t m.tasks
     → (tasked m t).queue ≡ q ∷ queue → valued_option m.live q.voucher ≡ Some w → valued m.live v ≡ after sc t w
     → (seen (with_tasked m t (with_name (record (tasked m t) { queue = queue }) v (name_of (tasked m t).names v)))
     ≡ received sc (seen m) t (member (seen m) t).queue)
@@ -220,10 +213,10 @@ recv_place : (sc : Scenario) (t : ℕ) (m : Machine) (f : Frame) (v : Handles) (
 recv_place sc t m f v q queue fits c forming s e =
     placed_step sc t m mid f (doubled m v ++ orphaned mid q.voucher) calls.Recv
     (replies.Received q.sender q.id (name_for x (name_of x.names v))) c refl refl
-    (subst (λ i. t - 1 < i) (sym (length-set m.tasks (t - 1) (with_name x v (name_of x.names v)))) l)
+    (still_in m.tasks t t (with_name x v (name_of x.names v)) l)
     (ap (λ (y : Tasked). y.begun) (own_task m t (with_name x v (name_of x.names v)) l)
     ∙ named_begun x v (name_of x.names v))
-    facts.0 (inl (sym facts.1, ap (option_all_live (seen m)) facts.2 ∙ voucher_lives sc m v fits live))
+    facts.0 (inl (refl, sym facts.1, ap (option_all_live (seen m)) facts.2 ∙ voucher_lives sc m v fits live))
   where
     x : Tasked
     x = record (tasked m t) { queue = queue }
@@ -231,8 +224,8 @@ recv_place sc t m f v q queue fits c forming s e =
     mid : Machine
     mid = with_tasked m t (with_name (record (tasked m t) { queue = queue }) v (name_of (tasked m t).names v))
 
-    l : t - 1 < length m.tasks
-    l = task_in_range m t f c.frame
+    l : IsAmong t m.tasks
+    l = frame_in m t f c.frame
 
     live : LiveAll m.live v
     live = forming_live sc m t f v fits c.frame forming
@@ -250,8 +243,8 @@ recv_place sc t m f v q queue fits c forming s e =
 pub recv_ends : (sc : Scenario) (want : Bool) (t : ℕ) (m : Machine) (f : Frame) (v : Handles) → Fits sc m
     → Calling sc t m f calls.Recv → f.forming ≡ Some v
     → FormsRecv sc (member_of m.live (tasked m t)).queue t f.keys (valued m.live v)
-    → call_next (tasked m t).names f.at_byte f.keys (Some calls.Recv) ≡ Some kinds.Place
-    → IsStep sc t m (do_place want m t f v calls.Recv)
+    → call_next sc.version (tasked m t).names f.at_byte f.keys (Some calls.Recv) ≡ Some kinds.Place
+    → IsStep sc t m (do_place sc want m t f v calls.Recv)
 recv_ends sc want t m f v fits c forming forms next =
     is_step_if sc t m _ _ want (λ _. recv_wants sc t m f s.voucher c s.first) (λ _. by_queue (tasked m t).queue refl)
   where

@@ -3,6 +3,7 @@ use Rattle.std.proofs.Common.{◌≡◌, ℕ, ◌+◌, ◌*◌, ◌≤◌, Bool,
 use Rattle.std.proofs.lemmas.List.Sums.{sum_by-cons}
 use Rattle.std.specs.Prelude.{if◌then◌else◌, ◌==◌}
 use Rattle.std.specs.List.{list_any, sum_by}
+use Rattle.vch_base.specs.declared.key.Key.TheVariants as keys
 use Rattle.vch_base.specs.declared.value.Value.{Value}
 use Rattle.vch_base.specs.declared.value.Value.TheVariants as values
 use Rattle.vch_base.specs.Values.{equal_values, task_numbers}
@@ -10,16 +11,16 @@ use Rattle.vch_model.specs.declared.call.Call.TheVariants as calls
 use Rattle.vch_model.specs.declared.call.Line.{Line}
 use Rattle.vch_model.specs.declared.entry.Entry.{Entry}
 use Rattle.vch_model.specs.declared.lists.Scenario.{Scenario}
-use Rattle.vch_model.specs.Voucher.{equal_options}
+use Rattle.vch_model.specs.Voucher.{equal_options, value_in}
 use Rattle.vch_model.specs.Store.{Store, Alive, is_alive}
 use Rattle.vch_model.specs.Lines.{is_task}
-use Rattle.vch_model.specs.Totals.{named_voucher, bank_of, charged, due, ledger}
+use Rattle.vch_model.specs.Totals.{named_voucher, charged, due, ledger}
 use Rattle.vch_model.specs.Legal.{all_tasks}
 use Rattle.vch_legal.specs.Facts.{bit, times}
 use Rattle.vch_legal.specs.Conserved.{each_task, charge_in, account_due}
-use Rattle.vch_legal.proofs.EventSpots.{cases_bool}
+use Rattle.vch_legal.proofs.Choices.{cases_bool}
 use Rattle.vch_legal.proofs.SeenHeld.{values_refl, values_eq}
-use Rattle.vch_legal.proofs.StoreLegal.{AllGood, equals}
+use Rattle.vch_legal.proofs.StoreSteps.{AllGood, equals}
 use Rattle.vch_legal.proofs.Conservation.{each_same, each_more, task_range, live_same}
 
 -- the sums after an accepted call
@@ -122,7 +123,7 @@ abbrev pub charge_line : ℕ → ℕ → ℕ → ℕ → Option (ℕ × Line)
 charge_line phase u name n = Some (phase, record { task = u; call = calls.Charge name n })
 
 task_due : (sc : Scenario) (past : List Entry) (s : Store) (t phase u name n : ℕ) (x : Value)
-    → bank_of (named_voucher s t name) ≡ Some (values.Task t)
+    → value_in keys.Bank (named_voucher s t name) ≡ Some (values.Task t)
     → account_due sc past x ≡ due_after sc past s t (charge_line phase u name n) x
 task_due sc past s t phase u name n (values.Account a b) e =
     sym (ap (λ o. if equal_options o (Some (values.Account a b)) then due sc past
@@ -134,7 +135,7 @@ task_due sc past s t phase u name n (values.Task v) e = refl
 
 -- a charge on the task's own value
 pub task_balanced : (sc : Scenario) (past : List Entry) (s : Store) (t phase u name n : ℕ) → AllGood sc s.live
-    → is_task sc t ≡ true → bank_of (named_voucher s t name) ≡ Some (values.Task t)
+    → is_task sc t ≡ true → value_in keys.Bank (named_voucher s t name) ≡ Some (values.Task t)
     → Balanced sc past s t (charge_line phase u name n)
 task_balanced sc past s t phase u name n good task e =
     joined _ _ _ _ (each_same _ _ (length sc.flags) (λ v. at_task v (t == v) refl)
@@ -148,22 +149,22 @@ task_balanced sc past s t phase u name n good task e =
     same_number a b g = grind arith
 
     task_equal : (v : ℕ) → (values_equal : equal_values (values.Task v) (values.Task v) ≡ true)
-        → bank_of (named_voucher s v name) ≡ Some (values.Task v)
-        → (if equal_options (bank_of (named_voucher s v name))
+        → value_in keys.Bank (named_voucher s v name) ≡ Some (values.Task v)
+        → (if equal_options (value_in keys.Bank (named_voucher s v name))
         (Some (values.Task v)) then ledger sc past v + n else ledger sc past v) ≡ ledger sc past v + n
     task_equal v g k = rw (k, g) refl
 
     at_task : (v : ℕ) (b : Bool) → (t == v) ≡ b
-        → (if t == v then (if equal_options (bank_of (named_voucher s v name))
+        → (if t == v then (if equal_options (value_in keys.Bank (named_voucher s v name))
         (Some (values.Task v)) then ledger sc past v + n else ledger sc past v) else ledger sc past v)
         ≡ (if t == v then ledger sc past v + n else ledger sc past v)
     at_task v true g = ap (λ (a : ℕ). if t == v then a else ledger sc past v)
-        (task_equal v (values_refl (values.Task v)) (subst (λ w. bank_of (named_voucher s w name) ≡ Some
+        (task_equal v (values_refl (values.Task v)) (subst (λ w. value_in keys.Bank (named_voucher s w name) ≡ Some
         (values.Task w)) (same_number t v g) e))
     at_task v false g = rw g refl
 
 account_if : (sc : Scenario) (past : List Entry) (s : Store) (t phase u name n h m : ℕ) (x : Value)
-    → bank_of (named_voucher s t name) ≡ Some (values.Account h m)
+    → value_in keys.Bank (named_voucher s t name) ≡ Some (values.Account h m)
     → (if equal_values x (values.Account h m) then account_due sc past x + n else account_due sc past x)
     ≡ due_after sc past s t (charge_line phase u name n) x
 account_if sc past s t phase u name n h m (values.Account a b) e =
@@ -195,7 +196,8 @@ account_if sc past s t phase u name n h m (values.Task v) e = refl
 -- a charge on an account
 pub account_balanced : (sc : Scenario) (past : List Entry) (s : Store) (t phase u name n h m : ℕ) → AllGood sc s.live
     → times (equals (values.Account h m)) s.live ≡ 1
-    → bank_of (named_voucher s t name) ≡ Some (values.Account h m) → Balanced sc past s t (charge_line phase u name n)
+    → value_in keys.Bank (named_voucher s t name) ≡ Some (values.Account h m)
+    → Balanced sc past s t (charge_line phase u name n)
 account_balanced sc past s t phase u name n h m good once e =
     joined _ _ _ _ (times (equals (values.Account h m)) s.live) once
     (each_same (ledger sc past) _ (length sc.flags) (λ v. at_task v (t == v) refl))
@@ -209,9 +211,9 @@ account_balanced sc past s t phase u name n h m good once e =
     same_number a b g = grind arith
 
     at_task : (v : ℕ) (b : Bool) → (t == v) ≡ b
-        → ledger sc past v ≡ (if t == v then (if equal_options (bank_of (named_voucher s v name))
+        → ledger sc past v ≡ (if t == v then (if equal_options (value_in keys.Bank (named_voucher s v name))
         (Some (values.Task v)) then ledger sc past v + n else ledger sc past v) else ledger sc past v)
-    at_task v true g = let k : bank_of (named_voucher s v name) ≡ Some (values.Account h m) =
-        subst (λ w. bank_of (named_voucher s w name) ≡ Some (values.Account h m)) (same_number t v g) e
+    at_task v true g = let k : value_in keys.Bank (named_voucher s v name) ≡ Some (values.Account h m) =
+        subst (λ w. value_in keys.Bank (named_voucher s w name) ≡ Some (values.Account h m)) (same_number t v g) e
         in rw (g, k) refl
     at_task v false g = rw g refl

@@ -1,16 +1,16 @@
 -- A change of all claims.
-use Rattle.std.proofs.Common.{◌≡◌, ℕ, ◌-◌, Bool, List, [], ◌∷◌, refl, true, false, not, ◌&&◌, sym, ap, ◌∙◌, subst, map, Some, None, Option}
-use Rattle.std.proofs.Math.ListN.{get_or-map}
+use Rattle.std.proofs.Common.{◌≡◌, ℕ, Bool, List, [], ◌∷◌, refl, true, false, not, ◌&&◌, sym, ap, ◌∙◌, subst, map, Some, None, Option}
 use Rattle.std.specs.Prelude.{is_some, if◌then◌else◌}
 use Rattle.vch_machine.specs.State.{Place, same_place, Claim, Frame, Tasked, Machine, idle, tasked, task_holds, frame_holds, frame_expects, frame_claims, claim_at, living_at, is_held, is_expected, claims_on}
 use Rattle.vch_machine.specs.Leaving.{is_fixed}
 use Rattle.vch_machine.specs.Making.{on_claims, on_task, on_frame, on_claim, race_claim, back_claim}
 use Rattle.vch_legal.specs.Facts.{spot}
+use Rattle.vch_legal.proofs.Choices.{cases_bool}
+use Rattle.vch_legal.proofs.TaskItems.{at_map}
 use Rattle.vch_legal.proofs.SpotSteps.{one, raced_now, back_now}
 use Rattle.vch_legal.proofs.TaskLists.{any_map, flat_map_map}
 use Rattle.vch_legal.proofs.Places.{same_place_eq}
 use Rattle.vch_legal.proofs.FrameSpots.{one_eq}
-use Rattle.vch_legal.proofs.EventSpots.{cases_bool}
 
 frame_holds_on : (g : Claim → Claim) (f : Option Frame) (p : Place) → frame_holds (on_frame g f) p ≡ frame_holds f p
 frame_holds_on g None p = refl
@@ -113,4 +113,4 @@ back_other q p c e =
 pub frame_on : (m : Machine) (t : ℕ) (f : Frame) (g : Claim → Claim) → (tasked m t).frame ≡ Some f
     → (tasked (on_claims g m) t).frame ≡ Some (record f { claim = on_claim g f.claim })
 frame_on m t f g e =
-    ap (λ (x : Tasked). x.frame) (get_or-map (on_task g) m.tasks (t - 1) idle) ∙ ap (λ x. on_frame g x) e
+    ap (λ (x : Tasked). x.frame) (at_map (on_task g) m.tasks t idle) ∙ ap (λ x. on_frame g x) e

@@ -14,8 +14,9 @@ use Rattle.vch_model.specs.After.{store_of}
 use Rattle.vch_model.specs.Totals.{held, out, weight, tasks_of, first_is, last_is}
 use Rattle.vch_model.specs.Legal.{LegalPast, all_tasks}
 use Rattle.vch_legal.specs.Conserved.{each_task}
-use Rattle.vch_legal.proofs.EventSpots.{cases_bool}
-use Rattle.vch_legal.proofs.StoreLegal.{AliveGood, AllGood, legal_store}
+use Rattle.vch_legal.proofs.Choices.{cases_bool}
+use Rattle.vch_legal.proofs.StoreSteps.{AliveGood, AllGood}
+use Rattle.vch_legal.proofs.StoreLegal.{legal_store}
 
 -- Sums over tasks.
 

@@ -1,20 +1,18 @@
 -- Each event of a frame keeps the facts of every handle.
-use Rattle.std.proofs.Common.{◌≡◌, ℕ, ◌-◌, ◌<◌, Bool, List, [], ◌∷◌, ◌++◌, refl, true, false, not, ◌&&◌, ◌||◌, arith, sym, ap, ◌∙◌, subst, length, Some, None, Option}
+use Rattle.std.proofs.Common.{◌≡◌, ℕ, Bool, List, [], ◌∷◌, ◌++◌, refl, true, false, not, ◌&&◌, ◌||◌, arith, sym, ap, ◌∙◌, subst, Some, None, Option}
 use Rattle.std.specs.Prelude.{is_some, if◌then◌else◌}
 use Rattle.vch_machine.specs.State.{Place, same_place, Claim, Frame, Machine, tasked, frame_holds, frame_claims, claim_at, option_has, is_place, is_held, is_expected, claims_on, living_at, is_empty}
 use Rattle.vch_machine.specs.Frames.{closed, with_frame}
 use Rattle.vch_machine.specs.Leaving.{is_fixed, claim_if, new_claim, do_let_go, do_recheck, again}
 use Rattle.vch_legal.specs.Facts.{Spot, spot, spot_fits}
+use Rattle.vch_legal.proofs.Choices.{cases_bool}
 use Rattle.vch_legal.proofs.SpotSteps.{one, fresh, let_go_at, recheck_at}
-use Rattle.vch_legal.proofs.Places.{same_place_eq, same_place_refl, closed_holds, closed_expects, closed_claims}
+use Rattle.vch_legal.proofs.Places.{Settled, same_place_eq, same_place_refl, closed_holds, closed_expects, closed_claims}
+use Rattle.vch_legal.proofs.TaskLists.{IsAmong}
 use Rattle.vch_legal.proofs.FrameSpots.{one_eq, kept_named, others_expect, claims_before, claims_behind, spot_by, spot_set, spot_of, spot_same, task_in_range}
 
 abbrev pub AllFit : Machine → Type 0
 AllFit m = (p : Place) → spot_fits (spot m p) ≡ true
-
-pub cases_bool : (b : Bool) (P : Type 0) → (b ≡ true → P) → (b ≡ false → P) → P
-cases_bool true P f g = f refl
-cases_bool false P f g = g refl
 
 -- the frame after it let a place go
 abbrev pub let_frame : Frame → List Place → Option Claim → Frame
@@ -40,10 +38,11 @@ let_mid m t f rest = with_frame m t (Some (record f { lets = rest }))
 
 -- at any other place nothing changes
 pub let_go_other : (m : Machine) (t : ℕ) (f : Frame) (q p : Place) (rest : List Place) → (tasked m t).frame ≡ Some f
+    → Settled f
     → f.lets ≡ q ∷ rest → f.claim ≡ None → same_place q p ≡ false → spot (do_let_go m t f q rest) p ≡ spot m p
-let_go_other m t f q p rest e lets claim other =
+let_go_other m t f q p rest e settled lets claim other =
     spot_same m t f (closed (let_frame f rest (claim_if (let_mid m t f rest) q))) p e
-    (closed_holds (let_frame f rest (claim_if (let_mid m t f rest) q)) p ∙ holds)
+    (closed_holds (let_frame f rest (claim_if (let_mid m t f rest) q)) p settled ∙ holds)
     (closed_expects (let_frame f rest (claim_if (let_mid m t f rest) q)) p)
     (closed_claims (let_frame f rest (claim_if (let_mid m t f rest) q)) p ∙ claims)
   where
@@ -88,18 +87,20 @@ let_go_join q fixed held expected cs mh me mc e g k = rw (e, g, k)
     (claim_at_if (fixed || (held || not (is_empty cs))) (fresh q expected) q refl)
 
 pub let_go_here : (m : Machine) (t : ℕ) (f : Frame) (q : Place) (rest : List Place) → (tasked m t).frame ≡ Some f
+    → Settled f
     → f.claim ≡ None
     → spot (do_let_go m t f q rest) q ≡ gone_spot m t f q rest (left_held m t f q rest) (left_claims m t f q rest)
-let_go_here m t f q rest e claim = changed ∙ ap (λ cs. gone_spot m t f q rest (left_held m t f q rest) cs) joined
+let_go_here m t f q rest e settled claim = changed ∙ ap
+    (λ cs. gone_spot m t f q rest (left_held m t f q rest) cs) joined
   where
-    l : t - 1 < length m.tasks
+    l : IsAmong t m.tasks
     l = task_in_range m t f e
 
     changed : spot (do_let_go m t f q rest) q ≡ gone_spot m t f q rest (left_held m t f q rest)
         (claim_at (claim_if (let_mid m t f rest) q) q)
     changed = spot_set m t (closed (let_frame f rest (claim_if (let_mid m t f rest) q))) q l
         ∙ one_eq _ _ _ _ _ _ _ _
-        (ap (λ x. x || kept_named m t q) (closed_holds (let_frame f rest (claim_if (let_mid m t f rest) q)) q))
+        (ap (λ x. x || kept_named m t q) (closed_holds (let_frame f rest (claim_if (let_mid m t f rest) q)) q settled))
         (ap (λ x. x || others_expect m t q) (closed_expects (let_frame f rest (claim_if (let_mid m t f rest) q)) q))
         (ap (λ x. claims_before m t q ++ (x ++ claims_behind m t q))
         (closed_claims (let_frame f rest (claim_if (let_mid m t f rest) q)) q))
@@ -124,22 +125,25 @@ let_go_was m t f q rest e lets claim = spot_of m t f q e ∙ one_eq _ _ _ _ _ _ 
     was_held = rw (lets, same_place_refl q) (held_now (option_has f.forming q) (kept_named m t q))
 
 let_go_same : (m : Machine) (t : ℕ) (f : Frame) (q : Place) (rest : List Place) → (tasked m t).frame ≡ Some f
+    → Settled f
     → f.lets ≡ q ∷ rest → f.claim ≡ None → spot_fits (spot m q) ≡ true
     → spot_fits (spot (do_let_go m t f q rest) q) ≡ true
-let_go_same m t f q rest e lets claim h =
-    fits_of (spot (do_let_go m t f q rest) q) _ (let_go_here m t f q rest e claim)
+let_go_same m t f q rest e settled lets claim h =
+    fits_of (spot (do_let_go m t f q rest) q) _ (let_go_here m t f q rest e settled claim)
     (let_go_at q (is_some (living_at m.live q)) (is_fixed m q) (left_held m t f q rest)
     (is_place f.receipt q || others_expect m t q) (claims_before m t q) (claims_behind m t q)
     (fits_of (gone_spot m t f q rest true []) (spot m q) (sym (let_go_was m t f q rest e lets claim)) h))
 
 -- LetGo keeps the facts of every handle
 pub let_go_fits : (m : Machine) (t : ℕ) (f : Frame) (q : Place) (rest : List Place) → (tasked m t).frame ≡ Some f
+    → Settled f
     → f.lets ≡ q ∷ rest → f.claim ≡ None → AllFit m → AllFit (do_let_go m t f q rest)
-let_go_fits m t f q rest e lets claim h p =
+let_go_fits m t f q rest e settled lets claim h p =
     cases_bool (same_place q p) (spot_fits (spot (do_let_go m t f q rest) p) ≡ true)
     (λ here. subst (λ (r : Place). spot_fits (spot (do_let_go m t f q rest) r) ≡ true) (same_place_eq q p here)
-    (let_go_same m t f q rest e lets claim (h q)))
-    (λ other. fits_of (spot (do_let_go m t f q rest) p) (spot m p) (let_go_other m t f q p rest e lets claim other)
+    (let_go_same m t f q rest e settled lets claim (h q)))
+    (λ other. fits_of (spot (do_let_go m t f q rest) p) (spot m p)
+    (let_go_other m t f q p rest e settled lets claim other)
     (h p))
 
 -- Recheck
@@ -162,11 +166,11 @@ claim_frame f c = record f { claim = c }
 
 -- where only the claim is replaced, by one on the same place or none
 pub claimed_other : (m : Machine) (t : ℕ) (f : Frame) (c : Claim) (d : Option Claim) (p : Place)
-    → (tasked m t).frame ≡ Some f → f.claim ≡ Some c
+    → (tasked m t).frame ≡ Some f → Settled f → f.claim ≡ Some c
     → ((x : Claim) → d ≡ Some x → x.place ≡ c.place) → same_place c.place p ≡ false
     → spot (with_frame m t (closed (claim_frame f d))) p ≡ spot m p
-claimed_other m t f c d p e claim place other =
-    spot_same m t f (closed (claim_frame f d)) p e (closed_holds (claim_frame f d) p)
+claimed_other m t f c d p e settled claim place other =
+    spot_same m t f (closed (claim_frame f d)) p e (closed_holds (claim_frame f d) p settled)
     (closed_expects (claim_frame f d) p)
     (closed_claims (claim_frame f d) p ∙ (claim_other d c.place p place other
     ∙ sym (ap (λ x. claim_at x p) claim ∙ one_claim_other c p other)))
@@ -184,11 +188,12 @@ claimed_before m t f c e claim =
     (ap (λ x. claim_at x c.place) claim ∙ one_claim_here c)
 
 pub claimed_after : (m : Machine) (t : ℕ) (f : Frame) (c : Claim) (d : Option Claim) → (tasked m t).frame ≡ Some f
+    → Settled f
     → spot (with_frame m t (closed (claim_frame f d))) c.place ≡ claimed_spot m t f c.place (claim_at d c.place)
-claimed_after m t f c d e =
+claimed_after m t f c d e settled =
     spot_set m t (closed (claim_frame f d)) c.place (task_in_range m t f e)
     ∙ one_eq _ _ _ _ _ _ _ _
-    (ap (λ x. x || kept_named m t c.place) (closed_holds (claim_frame f d) c.place))
+    (ap (λ x. x || kept_named m t c.place) (closed_holds (claim_frame f d) c.place settled))
     (ap (λ x. x || others_expect m t c.place) (closed_expects (claim_frame f d) c.place))
     (ap (λ x. claims_before m t c.place ++ (x ++ claims_behind m t c.place)) (closed_claims (claim_frame f d) c.place))
 
@@ -206,12 +211,13 @@ recheck_join c live fixed held expected xs ys nh ne e g a h =
     rw (e, g) (rw (some_if (c.back && not held) (fresh c.place expected) c.place refl)
     (recheck_at c live fixed held expected xs ys a h))
 
-recheck_same : (m : Machine) (t : ℕ) (f : Frame) (c : Claim) → (tasked m t).frame ≡ Some f → f.claim ≡ Some c
+recheck_same : (m : Machine) (t : ℕ) (f : Frame) (c : Claim) → (tasked m t).frame ≡ Some f → Settled f
+    → f.claim ≡ Some c
     → is_some c.answer ≡ true → spot_fits (spot m c.place) ≡ true → spot_fits (spot (do_recheck m t f c) c.place)
     ≡ true
-recheck_same m t f c e claim a h =
+recheck_same m t f c e settled claim a h =
     fits_of (spot (do_recheck m t f c) c.place) (claimed_spot m t f c.place (claim_at (again m c) c.place))
-    (claimed_after m t f c (again m c) e)
+    (claimed_after m t f c (again m c) e settled)
     (recheck_join c (is_some (living_at m.live c.place)) (is_fixed m c.place)
     (frame_holds (Some f) c.place || kept_named m t c.place)
     (is_place f.receipt c.place || others_expect m t c.place) (claims_before m t c.place) (claims_behind m t c.place)
@@ -219,11 +225,12 @@ recheck_same m t f c e claim a h =
     (ap (λ s. s.expected) (claimed_before m t f c e claim)) a
     (fits_of (claimed_spot m t f c.place (c ∷ [])) (spot m c.place) (sym (claimed_before m t f c e claim)) h))
 
-pub recheck_fits : (m : Machine) (t : ℕ) (f : Frame) (c : Claim) → (tasked m t).frame ≡ Some f → f.claim ≡ Some c
+pub recheck_fits : (m : Machine) (t : ℕ) (f : Frame) (c : Claim) → (tasked m t).frame ≡ Some f → Settled f
+    → f.claim ≡ Some c
     → is_some c.answer ≡ true → AllFit m → AllFit (do_recheck m t f c)
-recheck_fits m t f c e claim a h p =
+recheck_fits m t f c e settled claim a h p =
     cases_bool (same_place c.place p) (spot_fits (spot (do_recheck m t f c) p) ≡ true)
     (λ here. subst (λ (r : Place). spot_fits (spot (do_recheck m t f c) r) ≡ true) (same_place_eq c.place p here)
-    (recheck_same m t f c e claim a (h c.place)))
+    (recheck_same m t f c e settled claim a (h c.place)))
     (λ other. fits_of (spot (do_recheck m t f c) p) (spot m p)
-    (claimed_other m t f c (again m c) p e claim (again_place m c) other) (h p))
+    (claimed_other m t f c (again m c) p e settled claim (again_place m c) other) (h p))

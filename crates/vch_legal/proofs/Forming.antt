@@ -1,26 +1,29 @@
 -- What a frame forms, step by step.
-use Rattle.std.proofs.Common.{◌≡◌, ℕ, zero, suc, ◌+◌, ◌-◌, ◌<◌, ◌≤◌, List, [], ◌∷◌, refl, true, false, arith, sym, ap, ◌∙◌, length, map, take, drop, Some, None, Option, Ok, Err, Result, length-drop}
-use Rattle.std.specs.Prelude.{is_some, ◌==◌, nat_lt, ℤ, pos}
+use Rattle.std.proofs.Common.{◌≡◌, ℕ, zero, suc, ◌+◌, ◌-◌, ◌<◌, ◌≤◌, List, refl, true, false, arith, sym, ap, ◌∙◌, length, map, take, drop, Some, None, Option, Ok, Err, Result, length-drop}
+use Rattle.std.specs.Prelude.{is_some, ◌==◌, nat_lt, ℤ}
 use Rattle.std.proofs.lemmas.Grind.{common_steps}
 use Rattle.std.proofs.Math.Seq.{drop-drop}
 use Rattle.vch_base.specs.declared.key.Key.{Key}
 use Rattle.vch_base.specs.declared.key.Key.TheVariants as keys
+use Rattle.vch_base.specs.declared.codes.TheConstants.{KERN_INVALID_ARGUMENT}
 use Rattle.vch_recipe.specs.Recipes.{First, One, End, HeaderCut, ContentCut, first_of, content_of, word_at}
 use Rattle.vch_recipe.specs.declared.recipe.Recipe.{Recipe}
-use Rattle.vch_model.specs.Voucher.{Voucher, set_at, equal_options}
+use Rattle.vch_model.specs.Voucher.{Voucher, equal_options}
 use Rattle.vch_model.specs.Eval.{eval, eval_all}
-use Rattle.vch_machine.specs.State.{Handles, with_key, Living, living_at, value_of, value_at, valued, is_handle}
+use Rattle.vch_base.specs.Keyed.{with_key}
+use Rattle.vch_machine.specs.State.{Handles, Living, living_at, value_of, value_at, valued, is_handle}
 use Rattle.vch_machine.specs.Naming.{same_handle}
 use Rattle.vch_legal.specs.Facts.{Different}
-use Rattle.vch_legal.proofs.EventSpots.{cases_bool}
+use Rattle.vch_legal.proofs.Choices.{cases_bool}
 use Rattle.vch_legal.proofs.SeenHeld.{option_value}
 
 -- a handle put into a map is its value put into the voucher
 pub valued_with : (live : List Living) (k : Key) (x : Option ℕ) (v : Handles) → valued live (with_key k x v)
-    ≡ set_at k (value_at live k x) (valued live v)
+    ≡ with_key k (value_at live k x) (valued live v)
 valued_with live keys.Importance x v = refl
 valued_with live keys.Bank x v = refl
 valued_with live keys.User x v = refl
+valued_with live keys.Test x v = refl
 
 -- handles at one key, of which each is live, are the same where their values are equal
 abbrev pub LiveAt : List Living → Key → Option ℕ → Type 0
@@ -52,6 +55,7 @@ same_values live k (Some g) None d x y = none_value (living_at live (record { ke
 pub record After (b : List ℕ) (r : Recipe) (rest : List ℕ) : Type 0 where
   pub rest_is : rest ≡ drop (16 + length r.content) b
   pub shorter : length rest < length b
+  pub header : length rest + 16 ≤ length b
 
 cut_rest : (b : List ℕ) (w : ℕ) (r : Recipe) (rest : List ℕ) (long : 16 ≤ length b) → (key command previous : ℕ)
     → content_of key command previous w (drop 16 b) ≡ One r rest → After b r rest
@@ -70,13 +74,17 @@ cut_rest b w r rest long key command previous e =
     let m : length r.content ≡ w = ap length (sym c) ∙ n in
     record {
       rest_is = sym d ∙ (drop-drop-at w b ∙ ap (λ i. drop (16 + i) b) (sym m));
-      shorter = let i : length rest ≡ length (drop w (drop 16 b)) = ap length (sym d) in
-          let j : length (drop w (drop 16 b)) ≡ length b - 16 - w = length-drop w (drop 16 b)
-          ∙ ap (λ x. x - w) (length-drop 16 b) in omega arith;
+      shorter = let i : length rest + 16 ≤ length b = shorter d in omega arith;
+      header = shorter d;
     })
   where
     drop-drop-at : (w : ℕ) (b : List ℕ) → drop w (drop 16 b) ≡ drop (16 + w) b
     drop-drop-at w b = drop-drop w 16 b
+
+    shorter : drop w (drop 16 b) ≡ rest → length rest + 16 ≤ length b
+    shorter d = let i : length rest ≡ length (drop w (drop 16 b)) = ap length (sym d) in
+        let j : length (drop w (drop 16 b)) ≡ length b - 16 - w = length-drop w (drop 16 b)
+        ∙ ap (λ x. x - w) (length-drop 16 b) in omega arith
 
 pub rest_of : (b : List ℕ) (r : Recipe) (rest : List ℕ) → first_of b ≡ One r rest → After b r rest
 rest_of b r rest e =
@@ -91,45 +99,50 @@ rest_of b r rest e =
     sixteen n h = grind arith
 
 -- one step of the fold
-step_bound : (n k : ℕ) (names : ℕ → Option Voucher) (t : ℕ) (first : First) (map : Voucher)
-    → ((r : Recipe) (rest : List ℕ) (next : Voucher) → first ≡ One r rest → eval_all n names t next rest
-    ≡ eval_all k names t next rest)
+step_bound : (version n k : ℕ) (names : ℕ → Option Voucher) (t : ℕ) (first : First) (map : Voucher)
+    → ((r : Recipe) (rest : List ℕ) (next : Voucher) → first ≡ One r rest → eval_all version n names t next rest
+    ≡ eval_all version k names t next rest)
     → ◌≡◌ {A = Result Voucher ℤ} (elim first [
-      | One r rest ↦ elim (eval names t r map)
-          [ Ok next ↦ eval_all n names t next rest | Err code ↦ Err code ]
+      | One r rest ↦ elim (eval version names t r map)
+          [ Ok next ↦ eval_all version n names t next rest | Err code ↦ Err code ]
       | End ↦ Ok map
       | HeaderCut left
-          ↦ Err (pos 4)
-      | ContentCut wanted left ↦ Err (pos 4)
+          ↦ Err KERN_INVALID_ARGUMENT
+      | ContentCut wanted left ↦ Err KERN_INVALID_ARGUMENT
     ])
     (elim first [
-      | One r rest ↦ elim (eval names t r map)
-          [ Ok next ↦ eval_all k names t next rest | Err code ↦ Err code ]
+      | One r rest ↦ elim (eval version names t r map)
+          [ Ok next ↦ eval_all version k names t next rest | Err code ↦ Err code ]
       | End ↦ Ok map
       | HeaderCut left
-          ↦ Err (pos 4)
-      | ContentCut wanted left ↦ Err (pos 4)
+          ↦ Err KERN_INVALID_ARGUMENT
+      | ContentCut wanted left ↦ Err KERN_INVALID_ARGUMENT
     ])
-step_bound n k names t (One r rest) map h = of_result (eval names t r map)
+step_bound version n k names t (One r rest) map h = of_result (eval version names t r map)
   where
     of_result : (x : Result Voucher ℤ) → ◌≡◌ {A = Result Voucher ℤ}
-        (elim x [ Ok next ↦ eval_all n names t next rest | Err code ↦ Err code ])
-        (elim x [ Ok next ↦ eval_all k names t next rest | Err code ↦ Err code ])
+        (elim x [ Ok next ↦ eval_all version n names t next rest | Err code ↦ Err code ])
+        (elim x [ Ok next ↦ eval_all version k names t next rest | Err code ↦ Err code ])
     of_result (Ok next) = h r rest next refl
     of_result (Err code) = refl
-step_bound n k names t End map h = refl
-step_bound n k names t (HeaderCut left) map h = refl
-step_bound n k names t (ContentCut wanted left) map h = refl
+step_bound version n k names t End map h = refl
+step_bound version n k names t (HeaderCut left) map h = refl
+step_bound version n k names t (ContentCut wanted left) map h = refl
+
+-- a bound that is never reached
+pub record Enough (b : List ℕ) (n : ℕ) : Type 0 where
+  pub least : 1 ≤ n
+  pub all : length b ≤ n
 
 -- the bound of the fold does not matter once it is large enough
-pub eval_bound : (n k : ℕ) (names : ℕ → Option Voucher) (t : ℕ) (map : Voucher) (b : List ℕ) → length b ≤ n
-    → length b ≤ k → eval_all n names t map b ≡ eval_all k names t map b
+pub eval_bound : (version n k : ℕ) (names : ℕ → Option Voucher) (t : ℕ) (map : Voucher) (b : List ℕ) → Enough b n
+    → Enough b k → eval_all version n names t map b ≡ eval_all version k names t map b
 unfolding eval_all
-eval_bound zero zero names t map b l m = refl
-eval_bound zero (suc k) names t map [] l m = refl
-eval_bound zero (suc k) names t map (x ∷ b) l m = absurd (omega arith)
-eval_bound (suc n) zero names t map [] l m = refl
-eval_bound (suc n) zero names t map (x ∷ b) l m = absurd (omega arith)
-eval_bound (suc n) (suc k) names t map b l m =
-    step_bound n k names t (first_of b) map (λ r rest next e. let s : length rest < length b =
-    (rest_of b r rest e).shorter in eval_bound n k names t next rest (omega arith) (omega arith))
+eval_bound version zero k names t map b l m = let i : 1 ≤ 0 = l.least in absurd (omega arith)
+eval_bound version (suc n) zero names t map b l m = let i : 1 ≤ 0 = m.least in absurd (omega arith)
+eval_bound version (suc n) (suc k) names t map b l m =
+    step_bound version n k names t (first_of b) map (λ r rest next e. let s : length rest + 16 ≤ length b =
+    (rest_of b r rest e).header in
+    let i : length b ≤ suc n = l.all in let j : length b ≤ suc k = m.all in
+    eval_bound version n k names t next rest (record { least = omega arith; all = omega arith })
+    (record { least = omega arith; all = omega arith }))

@@ -1,5 +1,5 @@
 -- What a spot is where one frame is replaced.
-use Rattle.std.proofs.Common.{◌≡◌, ℕ, ◌-◌, ◌<◌, Bool, List, ◌++◌, ◌||◌, arith, sym, ap, ◌∙◌, length, Some, Option}
+use Rattle.std.proofs.Common.{◌≡◌, ℕ, Bool, List, ◌++◌, ◌||◌, arith, sym, ap, ◌∙◌, Some, Option}
 use Rattle.std.specs.Prelude.{is_some}
 use Rattle.std.specs.List.{list_any}
 use Rattle.vch_machine.specs.State.{Place, Named, Message, Claim, Frame, Tasked, Machine, idle, tasked, has_place, option_has, frame_holds, frame_expects, frame_claims, task_holds, living_at}
@@ -7,8 +7,8 @@ use Rattle.vch_machine.specs.Frames.{with_frame}
 use Rattle.vch_machine.specs.Leaving.{is_fixed}
 use Rattle.vch_legal.specs.Facts.{Spot, spot}
 use Rattle.vch_legal.proofs.SpotSteps.{one}
-use Rattle.vch_legal.proofs.TaskLists.{other_any, any_split, any_set, before, behind, all_split, all_set}
-use Rattle.vch_legal.proofs.Places.{in_range}
+use Rattle.vch_legal.proofs.TaskLists.{IsAmong, other_any, any_split, any_set, before, behind, all_split, all_set}
+use Rattle.vch_legal.proofs.Places.{among}
 
 -- who else holds a place: names and messages of the task, and the other tasks
 abbrev pub names_hold : Machine → ℕ → Place → Bool
@@ -18,19 +18,19 @@ abbrev pub queue_holds : Machine → ℕ → Place → Bool
 queue_holds m t p = list_any (λ (q : Message). option_has q.voucher p) (tasked m t).queue
 
 abbrev pub others_hold : Machine → ℕ → Place → Bool
-others_hold m t p = other_any (task_holds p) m.tasks (t - 1)
+others_hold m t p = other_any (task_holds p) m.tasks t
 
 abbrev pub kept_named : Machine → ℕ → Place → Bool
 kept_named m t p = (names_hold m t p || queue_holds m t p) || others_hold m t p
 
 abbrev pub others_expect : Machine → ℕ → Place → Bool
-others_expect m t p = other_any (λ (x : Tasked). frame_expects x.frame p) m.tasks (t - 1)
+others_expect m t p = other_any (λ (x : Tasked). frame_expects x.frame p) m.tasks t
 
 abbrev pub claims_before : Machine → ℕ → Place → List Claim
-claims_before m t p = before (λ (x : Tasked). frame_claims x.frame p) m.tasks (t - 1)
+claims_before m t p = before (λ (x : Tasked). frame_claims x.frame p) m.tasks t
 
 abbrev pub claims_behind : Machine → ℕ → Place → List Claim
-claims_behind m t p = behind (λ (x : Tasked). frame_claims x.frame p) m.tasks (t - 1)
+claims_behind m t p = behind (λ (x : Tasked). frame_claims x.frame p) m.tasks t
 
 -- the spot where the task's frame is replaced by another
 abbrev pub spot_by : Machine → ℕ → Option Frame → Place → Spot
@@ -46,26 +46,26 @@ pub one_eq : (live fixed a b c d : Bool) (x y : List Claim) → a ≡ b → c �
     → one live fixed a c x ≡ one live fixed b d y
 one_eq live fixed a b c d x y e f g = cc
 
-pub spot_set : (m : Machine) (t : ℕ) (g : Option Frame) (p : Place) → t - 1 < length m.tasks
+pub spot_set : (m : Machine) (t : ℕ) (g : Option Frame) (p : Place) → IsAmong t m.tasks
     → spot (with_frame m t g) p ≡ spot_by m t g p
 spot_set m t g p l =
     one_eq (is_some (living_at m.live p)) (is_fixed m p) _ _ _ _ _ _
-    (any_set (task_holds p) m.tasks (t - 1) (record (tasked m t) { frame = g }) l
+    (any_set (task_holds p) m.tasks t (record (tasked m t) { frame = g }) l
     ∙ regroup (names_hold m t p) (queue_holds m t p) (frame_holds g p) (others_hold m t p))
-    (any_set (λ (x : Tasked). frame_expects x.frame p) m.tasks (t - 1) (record (tasked m t) { frame = g }) l)
-    (all_set (λ (x : Tasked). frame_claims x.frame p) m.tasks (t - 1) (record (tasked m t) { frame = g }) l)
+    (any_set (λ (x : Tasked). frame_expects x.frame p) m.tasks t (record (tasked m t) { frame = g }) l)
+    (all_set (λ (x : Tasked). frame_claims x.frame p) m.tasks t (record (tasked m t) { frame = g }) l)
 
-pub spot_split : (m : Machine) (t : ℕ) (p : Place) → t - 1 < length m.tasks
+pub spot_split : (m : Machine) (t : ℕ) (p : Place) → IsAmong t m.tasks
     → spot m p ≡ spot_by m t (tasked m t).frame p
 spot_split m t p l =
     one_eq (is_some (living_at m.live p)) (is_fixed m p) _ _ _ _ _ _
-    (any_split (task_holds p) m.tasks (t - 1) idle l ∙ regroup (names_hold m t p) (queue_holds m t p)
+    (any_split (task_holds p) m.tasks t idle l ∙ regroup (names_hold m t p) (queue_holds m t p)
     (frame_holds (tasked m t).frame p) (others_hold m t p))
-    (any_split (λ (x : Tasked). frame_expects x.frame p) m.tasks (t - 1) idle l)
-    (all_split (λ (x : Tasked). frame_claims x.frame p) m.tasks (t - 1) idle l)
+    (any_split (λ (x : Tasked). frame_expects x.frame p) m.tasks t idle l)
+    (all_split (λ (x : Tasked). frame_claims x.frame p) m.tasks t idle l)
 
-pub task_in_range : (m : Machine) (t : ℕ) (f : Frame) → (tasked m t).frame ≡ Some f → t - 1 < length m.tasks
-task_in_range m t f e = in_range m.tasks (t - 1) f e
+pub task_in_range : (m : Machine) (t : ℕ) (f : Frame) → (tasked m t).frame ≡ Some f → IsAmong t m.tasks
+task_in_range m t f e = among m.tasks t f e
 
 -- a spot of a machine with a frame
 pub spot_of : (m : Machine) (t : ℕ) (f : Frame) (p : Place) → (tasked m t).frame ≡ Some f

@@ -1,18 +1,15 @@
 -- What a task holds is live.
-use Rattle.std.proofs.Common.{◌≡◌, ℕ, ◌-◌, Bool, List, [], ◌∷◌, refl, true, false, arith, sym, ap, ◌∙◌, Some, None, Option}
-use Rattle.std.specs.Prelude.{◌==◌, is_some}
+use Rattle.std.proofs.Common.{◌≡◌, ℕ, List, [], ◌∷◌, refl, true, false, arith, ap, ◌∙◌, Some, None, Option}
+use Rattle.std.specs.Prelude.{is_some}
 use Rattle.std.specs.List.{list_any}
-use Rattle.vch_base.specs.declared.key.Key.{Key}
-use Rattle.vch_base.specs.declared.key.Key.TheVariants as keys
 use Rattle.vch_model.specs.declared.lists.Scenario.{Scenario}
-use Rattle.vch_machine.specs.State.{Handles, of_key, Place, Living, Named, Message, Frame, Machine, tasked, living_at, is_handle, has_place, option_has, frame_holds, task_holds, is_held, is_expected}
+use Rattle.vch_base.specs.Keyed.{of_key}
+use Rattle.vch_machine.specs.State.{Handles, Place, Living, Named, Message, Frame, Machine, idle, tasked, living_at, is_handle, has_place, option_has, frame_holds, task_holds, is_held, is_expected}
 use Rattle.vch_legal.specs.Facts.{Fits, Spot, spot, spot_fits}
 use Rattle.vch_legal.proofs.Forming.{LiveAt}
 use Rattle.vch_legal.proofs.SeenNames.{LiveAll, AllLive}
-use Rattle.vch_legal.proofs.SeenTasks.{none_at}
-use Rattle.vch_legal.proofs.EventSpots.{cases_bool}
-use Rattle.vch_legal.proofs.LeaveSpots.{or_left, or_right}
-use Rattle.vch_legal.proofs.SeenHeld.{not_true}
+use Rattle.vch_legal.proofs.TaskItems.{any_at}
+use Rattle.vch_legal.proofs.Choices.{not_true, both_ways, or_left, or_right, eq_refl}
 
 holder_is_live : (s : Spot) → spot_fits s ≡ true → s.held ≡ true → s.live ≡ true
 holder_is_live s h e = grind arith
@@ -21,9 +18,6 @@ expected_is_live : (s : Spot) → spot_fits s ≡ true → s.expected ≡ true �
 expected_is_live s h e = grind arith
 
 -- a handle that is not live is not held, and none expects it
-both_ways : {b : Bool} → b ≡ true → b ≡ false → ⊥
-both_ways e g = let k : true ≡ false = sym e ∙ g in cc
-
 pub dead_unheld : (sc : Scenario) (m : Machine) (p : Place) → Fits sc m → living_at m.live p ≡ None → is_held m p
     ≡ false
 dead_unheld sc m p f e = not_true (is_held m p)
@@ -36,8 +30,7 @@ dead_unexpected sc m p f e = not_true (is_expected m p)
 
 -- what a task holds is held
 pub task_held : (m : Machine) (t : ℕ) (p : Place) → task_holds p (tasked m t) ≡ true → is_held m p ≡ true
-task_held m t p h = cases_bool (is_held m p) (is_held m p ≡ true) (λ e. e)
-    (λ e. absurd (both_ways h (none_at (task_holds p) m.tasks (t - 1) refl e)))
+task_held m t p h = any_at (task_holds p) m.tasks t idle refl h
 
 pub held_live : (sc : Scenario) (m : Machine) (t : ℕ) (p : Place) → Fits sc m → task_holds p (tasked m t) ≡ true
     → is_some (living_at m.live p) ≡ true
@@ -46,19 +39,11 @@ held_live sc m t p f h = holder_is_live (spot m p) (f.spots p) (task_held m t p 
 -- a voucher of which each place is live
 pub voucher_live : (live : List Living) (v : Handles) →
     ((p : Place) → has_place v p ≡ true → is_some (living_at live p) ≡ true) → LiveAll live v
-voucher_live live v h = record {
-  importance = at_key keys.Importance v.importance refl;
-  bank = at_key keys.Bank v.bank
-      refl;
-  user = at_key keys.User v.user refl;
-}
+voucher_live live v h k = at_key (of_key k v) refl
   where
-    own : (n : ℕ) → (n == n) ≡ true
-    own n = grind arith
-
-    at_key : (k : Key) (x : Option ℕ) → of_key k v ≡ x → LiveAt live k x
-    at_key k None e = tt
-    at_key k (Some i) e = h (record { key = k; handle = i }) (ap (λ o. is_handle o i) e ∙ own i)
+    at_key : (x : Option ℕ) → of_key k v ≡ x → LiveAt live k x
+    at_key None e = tt
+    at_key (Some i) e = h (record { key = k; handle = i }) (ap (λ o. is_handle o i) e ∙ eq_refl i)
 
 -- the voucher that a frame forms
 pub forming_live : (sc : Scenario) (m : Machine) (t : ℕ) (f : Frame) (v : Handles) → Fits sc m → (tasked m t).frame

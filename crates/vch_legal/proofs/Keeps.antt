@@ -1,19 +1,25 @@
 -- The facts of a state: at the start, through every event and every end of a phase, and so along every run.
-use Rattle.std.proofs.Common.{◌≡◌, ℕ, zero, suc, ◌+◌, ◌-◌, ◌≤◌, Bool, List, [], ◌∷◌, refl, true, false, ◌&&◌, arith, sym, ap, ◌∙◌, subst, length, map, get_or, Some, None, Option}
+use Rattle.std.proofs.Common.{◌≡◌, ◌≢◌, ℕ, zero, suc, ◌+◌, ◌≤◌, Bool, List, [], ◌∷◌, refl, true, false, ◌&&◌, arith, sym, ap, ◌∙◌, subst, length, map, get_or, Some, None, Option}
 use Rattle.std.proofs.lemmas.List.{length-map}
-use Rattle.std.specs.Prelude.{is_some, if◌then◌else◌, nat_lt, ◌==◌}
+use Rattle.std.specs.Prelude.{ℤ, is_some, if◌then◌else◌, nat_lt, ◌==◌}
 use Rattle.vch_base.specs.declared.flags.Flags.{Flags}
 use Rattle.vch_base.specs.declared.key.Key.{Key}
+use Rattle.vch_base.specs.Keyed.{of_key}
+use Rattle.vch_base.specs.Tasks.{at_task}
 use Rattle.vch_base.specs.declared.key.Key.TheVariants as keys
+use Rattle.vch_model.specs.declared.call.Call.{Call}
 use Rattle.vch_model.specs.declared.entry.Entry.TheVariants as entries
+use Rattle.vch_base.proofs.CallerLemmas.{other_items}
+use Rattle.vch_machine.proofs.CallerLemmas.{Leaves, still}
 use Rattle.vch_model.specs.declared.lists.Scenario.{Scenario}
 use Rattle.vch_model.specs.Lines.{is_task, phases_in}
-use Rattle.vch_machine.specs.State.{Place, same_place, Living, Tasked, Machine, idle, handle_of, start, default_place, default_living, living_at, is_empty, of_key}
-use Rattle.vch_machine.specs.Events.{event, phase_event, ready, numbers}
-use Rattle.vch_machine.specs.Frames.{noted}
+use Rattle.vch_machine.specs.State.{Handles, Frame, tasked, Place, same_place, Living, Tasked, Machine, idle, handle_of, start, default_place, default_living, living_at}
+use Rattle.vch_machine.specs.Events.{event, phase_event, all_at_rest}
+use Rattle.vch_machine.specs.Frames.{noted, refuse}
 use Rattle.vch_machine.specs.Schedules.{Move, happens, run, run_from_start}
 use Rattle.vch_legal.specs.Facts.{Fits, spot, OptionFits, EachOnce, Different, ValueFits, ValuesFit, NumbersFit, IsCounted, bit, times, total, burden}
-use Rattle.vch_legal.proofs.EventSpots.{AllFit, fits_of, let_go_fits, recheck_fits, cases_bool}
+use Rattle.vch_legal.proofs.Choices.{cases_bool}
+use Rattle.vch_legal.proofs.EventSpots.{AllFit, fits_of, let_go_fits, recheck_fits}
 use Rattle.vch_legal.proofs.AskSpots.{ask_fits}
 use Rattle.vch_legal.proofs.ReferSpots.{refer_fits}
 use Rattle.vch_legal.proofs.MakeSpots.{made_fits}
@@ -21,9 +27,10 @@ use Rattle.vch_legal.proofs.Places.{same_place_eq}
 use Rattle.vch_legal.proofs.StartFits.{start_fits}
 use Rattle.vch_legal.proofs.ValuesMade.{asked_value}
 use Rattle.vch_legal.proofs.LiveKeeps.{LiveOf, live_cases}
-use Rattle.vch_legal.proofs.TaskKeeps.{TasksFit, event_tasks}
+use Rattle.vch_legal.proofs.TaskKeeps.{TasksFit, event_tasks, plain_tasks}
+use Rattle.vch_legal.proofs.PlainEvents.{Plain, refuse_plain}
 use Rattle.vch_legal.proofs.TallyKeeps.{not_default, counted_cases}
-use Rattle.vch_legal.proofs.Cases.{Cases, May, event_case}
+use Rattle.vch_legal.proofs.Cases.{Cases, May, event_case, fits_at, in_range_of, still_going}
 
 -- every event keeps the facts of every handle
 pub spot_cases : (sc : Scenario) (t : ℕ) (m : Machine) → Fits sc m → is_task sc t ≡ true → Cases sc t m AllFit
@@ -33,11 +40,13 @@ spot_cases sc t m h task = record {
       (handle_of m.live k x) refl e receipt h.each_once
       (λ none. not_default sc m k x h.different h.default_live
       (asked_value sc m t f v call k x task h.values eq) none) h.spots;
-  refer = λ f v call q e forming current receipt. refer_fits m t f v call q e forming
-      ((subst OptionFits e (h.frames t)).claim (ap is_some receipt)) receipt h.spots;
-  let_go = λ f q rest e lets receipt claim. let_go_fits m t f q rest e lets claim h.spots;
+  refer = λ f v call q e forming current receipt. refer_fits sc.version m t f v call q e
+      (still_going f v (fits_at sc t m f h e) forming) forming
+      ((fits_at sc t m f h e).claim (ap is_some receipt)) receipt h.spots;
+  let_go = λ f q rest e lets receipt claim. let_go_fits m t f q rest e
+      (fits_at sc t m f h e).answered lets claim h.spots;
   ask = λ f c e claim a. ask_fits m t f c e claim a h.spots;
-  recheck = λ f c e claim a. recheck_fits m t f c e claim a h.spots;
+  recheck = λ f c e claim a. recheck_fits m t f c e (fits_at sc t m f h e).answered claim a h.spots;
 }
 
 -- all but the facts of tasks
@@ -90,6 +99,7 @@ fits_from sc n v t = record {
   spots = v.spots;
   frames = t.frames;
   sends = t.sends;
+  exits = t.exits;
   tasks = t.tasks;
   each_once = v.live.each_once;
   different = v.live.different;
@@ -106,12 +116,45 @@ event_keeps sc want t m n h e =
     fits_from sc n (subst (May (Values sc)) e (event_case sc want t m (Values sc) h (value_cases sc t m h)))
     (event_tasks sc want t m n h e)
 
+-- a refusal keeps them, by itself
+pub refuse_keeps : (sc : Scenario) (t : ℕ) (m : Machine) (f : Frame) (v : Handles) (call : Call) (code : ℤ) → Fits sc m
+    → is_task sc t ≡ true → (tasked m t).frame ≡ Some f → f.forming ≡ Some v → f.receipt ≡ None → f.claim ≡ None
+    → f.lets ≡ [] → Fits sc (refuse m t f call code)
+refuse_keeps sc t m f v call code h task frame forming receipt claim lets =
+    fits_from sc n ((value_cases sc t m h task).plain n plain) (plain_tasks sc t m n h plain others)
+  where
+    n : Machine
+    n = refuse m t f call code
+
+    plain : Plain sc t m n
+    plain = refuse_plain sc t m f v call code (record {
+      under = record {
+        range = in_range_of sc m h.tasks;
+        sends = h.sends;
+        exits = h.exits;
+        task = task;
+        frame = frame;
+        fits = fits_at sc t m f h frame;
+      };
+      forming = forming;
+      receipt = receipt;
+      claim = claim;
+      lets = lets;
+    })
+
+    others : (u : ℕ) → u ≢ t → Leaves u m n
+    others u apart = record {
+      task = ap still (other_items m.tasks t u _ idle apart);
+      phases = refl;
+    }
+
 -- an end of a phase keeps them
 noted_keeps : (sc : Scenario) (m : Machine) → Fits sc m → Fits sc (noted m entries.Phase)
 noted_keeps sc m h = record {
   spots = h.spots;
   frames = h.frames;
   sends = h.sends;
+  exits = h.exits;
   tasks = h.tasks;
   each_once = h.each_once;
   different = h.different;
@@ -131,7 +174,7 @@ noted_keeps sc m h = record {
 
 pub phase_keeps : (sc : Scenario) (m n : Machine) → Fits sc m → phase_event sc m ≡ Some n → Fits sc n
 unfolding phase_event
-phase_keeps sc m n h e = by_test (is_empty (ready sc m (numbers (length sc.flags))) && nat_lt (phases_in m.past)
+phase_keeps sc m n h e = by_test (all_at_rest sc m && nat_lt (phases_in m.past)
     (length sc.phases)) e
   where
     by_test : (b : Bool) → (if b then Some (noted m entries.Phase) else None) ≡ Some n → Fits sc n
@@ -140,10 +183,14 @@ phase_keeps sc m n h e = by_test (is_empty (ready sc m (numbers (length sc.flags
 
 -- The start
 
-pub idle_task : (flags : List Flags) (i : ℕ) → get_or (map (λ _. idle) flags) i idle ≡ idle
-idle_task [] i = refl
-idle_task (x ∷ flags) zero = refl
-idle_task (x ∷ flags) (suc i) = idle_task flags i
+pub idle_task : (flags : List Flags) (t : ℕ) → at_task (map (λ _. idle) flags) t idle ≡ idle
+idle_task flags zero = refl
+idle_task flags (suc i) = from_place flags i
+  where
+    from_place : (flags : List Flags) (i : ℕ) → get_or (map (λ _. idle) flags) i idle ≡ idle
+    from_place [] i = refl
+    from_place (x ∷ flags) zero = refl
+    from_place (x ∷ flags) (suc i) = from_place flags i
 
 start_once : (sc : Scenario) → EachOnce (start sc)
 start_once sc p = at_key p.key p.handle
@@ -154,6 +201,7 @@ start_once sc p = at_key p.key p.handle
     at_key keys.Importance h = grind arith
     at_key keys.Bank h = grind arith
     at_key keys.User h = grind arith
+    at_key keys.Test h = grind arith
 
 -- only Default is live
 lone_default : (p : Place) (a : Living) → living_at (default_living ∷ []) p ≡ Some a
@@ -190,9 +238,11 @@ start_numbers = record {
 pub start_keeps : (sc : Scenario) → Fits sc (start sc)
 start_keeps sc = record {
   spots = start_fits sc;
-  frames = λ t. subst (λ (x : Tasked). OptionFits x.frame) (sym (idle_task sc.flags (t - 1))) tt;
+  frames = λ t. subst (λ (x : Tasked). OptionFits x.frame) (sym (idle_task sc.flags t)) tt;
   sends = λ t f to moving name id task e call. let k : None ≡ Some f =
-      sym (ap (λ (x : Tasked). x.frame) (idle_task sc.flags (t - 1))) ∙ e in cc;
+      sym (ap (λ (x : Tasked). x.frame) (idle_task sc.flags t)) ∙ e in cc;
+  exits = λ t f task e call. let k : None ≡ Some f =
+      sym (ap (λ (x : Tasked). x.frame) (idle_task sc.flags t)) ∙ e in cc;
   tasks = length-map sc.flags (λ _. idle);
   each_once = start_once sc;
   different = start_different;

@@ -1,28 +1,23 @@
 -- Vouchers that leave names and queues change no spot: what nobody has any more is let go.
-use Rattle.std.proofs.Common.{◌≡◌, ℕ, zero, suc, ◌-◌, ◌<◌, Bool, List, [], ◌∷◌, ◌++◌, refl, true, false, ◌||◌, arith, sym, ap, ◌∙◌, length, get_or, Some, None, Option}
+use Rattle.std.proofs.Common.{◌≡◌, ℕ, zero, suc, ◌-◌, ◌<◌, ◌≤◌, Bool, List, [], ◌∷◌, ◌++◌, refl, true, false, ◌||◌, arith, sym, ap, ◌∙◌, length, get_or, Some, None, Option}
 use Rattle.std.proofs.Math.ListN.{set}
 use Rattle.std.specs.Prelude.{if◌then◌else◌, ◌==◌, nat_lt}
 use Rattle.std.specs.List.{list_any}
 use Rattle.std.proofs.lemmas.List.Folds.{list_any-append}
+use Rattle.vch_base.specs.Tasks.{at_task, set_task}
 use Rattle.vch_model.specs.declared.call.Call.{Call}
 use Rattle.vch_model.specs.declared.entry.Reply.{Reply}
 use Rattle.vch_machine.specs.State.{Handles, Place, Named, Message, Tasked, Machine, idle, tasked, with_tasked, has_place, option_has, frame_holds, frame_expects, frame_claims, task_holds}
 use Rattle.vch_machine.specs.Beginning.{dropped, leaving_frame}
 use Rattle.vch_machine.specs.Frames.{closed}
-use Rattle.vch_machine.specs.Naming.{same_handles, one_less, option_same, task_knows, is_known, places, orphaned, handles_of}
+use Rattle.vch_machine.specs.Naming.{same_handles, one_less, without_name, option_same, task_knows, is_known, places, orphaned, handles_of}
 use Rattle.vch_legal.specs.Facts.{spot}
-use Rattle.vch_legal.proofs.TaskLists.{other_any, any_set}
+use Rattle.vch_legal.proofs.Choices.{cases_bool, or_left, or_right}
+use Rattle.vch_legal.proofs.TaskLists.{IsAmong, other_any, any_set}
 use Rattle.vch_legal.proofs.Places.{closed_holds, closed_expects, closed_claims}
 use Rattle.vch_legal.proofs.FrameSpots.{one_eq, others_hold, others_expect, claims_before, claims_behind, spot_split}
-use Rattle.vch_legal.proofs.EventSpots.{cases_bool}
 use Rattle.vch_legal.proofs.WorkSpots.{lets_hold, places_hold}
 use Rattle.vch_legal.proofs.PutSpots.{known_to, spot_put, handles_eq}
-
-pub or_left : (a b : Bool) → a ≡ true → (a || b) ≡ true
-or_left a b e = grind arith
-
-pub or_right : (a b : Bool) → b ≡ true → (a || b) ≡ true
-or_right a b e = grind arith
 
 or_both : (a b c d : Bool) → (a ≡ true → c ≡ true) → (b ≡ true → d ≡ true) → (a || b) ≡ true → (c || d) ≡ true
 or_both true b c d f g e = or_left c d (f refl)
@@ -34,12 +29,16 @@ any_mono : {X : Type 0} (p q : X → Bool) → ((x : X) → p x ≡ true → q x
 any_mono p q f [] e = e
 any_mono p q f (x ∷ xs) e = or_both (p x) (list_any p xs) (q x) (list_any q xs) (f x) (any_mono p q f xs) e
 
-other_mono : {X : Type 0} (p q : X → Bool) → ((x : X) → p x ≡ true → q x ≡ true) → (xs : List X) (i : ℕ)
-    → other_any p xs i ≡ true → other_any q xs i ≡ true
-other_mono p q f [] i e = e
-other_mono p q f (x ∷ xs) zero e = any_mono p q f xs e
-other_mono p q f (x ∷ xs) (suc i) e = or_both (p x) (other_any p xs i) (q x) (other_any q xs i) (f x)
-    (other_mono p q f xs i) e
+other_mono : {X : Type 0} (p q : X → Bool) → ((x : X) → p x ≡ true → q x ≡ true) → (xs : List X) (t : ℕ)
+    → other_any p xs t ≡ true → other_any q xs t ≡ true
+other_mono {X} p q f xs zero e = any_mono p q f xs e
+other_mono {X} p q f xs (suc i) e = from_place xs i e
+  where
+    from_place : (xs : List X) (i : ℕ) → other_any p xs (suc i) ≡ true → other_any q xs (suc i) ≡ true
+    from_place [] i e = e
+    from_place (x ∷ xs) zero e = any_mono p q f xs e
+    from_place (x ∷ xs) (suc i) e = or_both (p x) (other_any p xs (suc i)) (q x) (other_any q xs (suc i)) (f x)
+        (from_place xs i) e
 
 has_same : (v w : Handles) (p : Place) → has_place v p ≡ true → same_handles w v ≡ true → has_place w p ≡ true
 has_same v w p h e = ap (λ x. has_place x p) (handles_eq w v e) ∙ h
@@ -67,14 +66,14 @@ known_holds p x e = regroup (list_any (λ (n : Named). has_place n.voucher p) x.
     regroup a b c g = grind arith
 
 -- a voucher that somebody has is held by them
-pub known_held : (m : Machine) (t : ℕ) (x : Tasked) (v : Handles) (p : Place) → t - 1 < length m.tasks
+pub known_held : (m : Machine) (t : ℕ) (x : Tasked) (v : Handles) (p : Place) → IsAmong t m.tasks
     → is_known (with_tasked m t x) v ≡ true → has_place v p ≡ true
     → (known_to x p || others_hold m t p) ≡ true
 known_held m t x v p l e h =
-    or_both (task_knows v x) (other_any (task_knows v) m.tasks (t - 1)) (known_to x p) (others_hold m t p)
+    or_both (task_knows v x) (other_any (task_knows v) m.tasks t) (known_to x p) (others_hold m t p)
     (knows_known v p x h)
-    (other_mono (task_knows v) (task_holds p) (λ y k. known_holds p y (knows_known v p y h k)) m.tasks (t - 1))
-    (sym (any_set (task_knows v) m.tasks (t - 1) x l) ∙ e)
+    (other_mono (task_knows v) (task_holds p) (λ y k. known_holds p y (knows_known v p y h k)) m.tasks t)
+    (sym (any_set (task_knows v) m.tasks t x l) ∙ e)
 
 orphan_held : (known has k : Bool) → (known ≡ true → has ≡ true → k ≡ true)
     → ((if known then false else has) || k) ≡ (has || k)
@@ -87,7 +86,7 @@ if_places : (b : Bool) (v : Handles) (p : Place) → lets_hold (if b then [] els
 if_places true v p = refl
 if_places false v p = places_hold v p
 
-pub orphan_law : (m : Machine) (t : ℕ) (x : Tasked) (w : Option Handles) (p : Place) → t - 1 < length m.tasks
+pub orphan_law : (m : Machine) (t : ℕ) (x : Tasked) (w : Option Handles) (p : Place) → IsAmong t m.tasks
     → (lets_hold (orphaned (with_tasked m t x) w) p || (known_to x p || others_hold m t p)) ≡
     (option_has w p || (known_to x p || others_hold m t p))
 orphan_law m t x None p l = refl
@@ -122,14 +121,28 @@ less_any (n ∷ names) name p =
     by_refs true = twice (has_place n.voucher p) (names_any names p)
     by_refs false = refl
 
+-- a name that is given up with all its user references
+pub without_any : (names : List Named) (name : ℕ) (p : Place) →
+    (option_has (handles_of names name) p || names_any (without_name names name) p) ≡ names_any names p
+without_any [] name p = refl
+without_any (n ∷ names) name p =
+    cases_bool (n.name == name) ((option_has (handles_of (n ∷ names) name) p || names_any
+    (without_name (n ∷ names) name) p) ≡ names_any (n ∷ names) p)
+    (λ here. rw here)
+    (λ other. rw other (between (option_has (handles_of names name) p) (has_place n.voucher p)
+    (names_any (without_name names name) p) ∙ ap (λ b. has_place n.voucher p || b) (without_any names name p)))
+  where
+    between : (a b c : Bool) → (a || (b || c)) ≡ (b || (a || c))
+    between a b c = grind arith
+
 -- a drop changes no spot; m has the call counted
-pub dropped_spot : (m : Machine) (t : ℕ) (call : Call) (r : Reply) (name : ℕ) (p : Place) → t - 1 < length m.tasks
+pub dropped_spot : (m : Machine) (t : ℕ) (call : Call) (r : Reply) (name : ℕ) (p : Place) → IsAmong t m.tasks
     → (tasked m t).frame ≡ None
     → spot (dropped m t call r (handles_of (tasked m t).names name) name) p ≡ spot m p
 dropped_spot m t call r name p l e =
     spot_put m t x (closed (leaving_frame lets)) p l
     ∙ (one_eq _ _ _ _ _ _ _ _
-    (ap (λ b. b || (known_to x p || others_hold m t p)) (closed_holds (leaving_frame lets) p)
+    (ap (λ b. b || (known_to x p || others_hold m t p)) (closed_holds (leaving_frame lets) p (λ _. refl))
     ∙ (orphan_law m t x w p l ∙ (law (option_has w p) (names_any (one_less (tasked m t).names name) p)
     (names_any (tasked m t).names p) (list_any (λ (q : Message). option_has q.voucher p) (tasked m t).queue)
     (others_hold m t p) (less_any (tasked m t).names name p)
@@ -165,11 +178,11 @@ recv_law l d o n1 k h false e g = rw e (by_or l h o n1 k g)
     by_or l h o n1 k g = grind arith
 
 -- a message is queued: its voucher is held there
-pub enqueued_any : (p : Place) (xs : List Tasked) (i : ℕ) (q : Message) → i < length xs
+queued_from : (p : Place) (xs : List Tasked) (i : ℕ) (q : Message) → i < length xs
     → list_any (task_holds p) (set xs i (record (get_or xs i idle) { queue = (get_or xs i idle).queue ++ q ∷ [] })) ≡
     (list_any (task_holds p) xs || option_has q.voucher p)
-enqueued_any p [] i q l = absurd (omega arith)
-enqueued_any p (x ∷ xs) zero q l =
+queued_from p [] i q l = absurd (omega arith)
+queued_from p (x ∷ xs) zero q l =
     ap (λ b. (list_any (λ (n : Named). has_place n.voucher p) x.names || (b || frame_holds x.frame p)) || list_any
     (task_holds p) xs) (list_any-append (λ (r : Message). option_has r.voucher p) x.queue (q ∷ []))
     ∙ moved_or (list_any (λ (n : Named). has_place n.voucher p) x.names)
@@ -178,16 +191,35 @@ enqueued_any p (x ∷ xs) zero q l =
   where
     moved_or : (n q h f r : Bool) → ((n || ((q || (h || false)) || f)) || r) ≡ (((n || (q || f)) || r) || h)
     moved_or n q h f r = grind arith
-enqueued_any p (x ∷ xs) (suc i) q l =
-    ap (λ b. task_holds p x || b) (enqueued_any p xs i q (omega arith))
+queued_from p (x ∷ xs) (suc i) q l =
+    ap (λ b. task_holds p x || b) (queued_from p xs i q (omega arith))
     ∙ assoc (task_holds p x) (list_any (task_holds p) xs) (option_has q.voucher p)
   where
     assoc : (a b c : Bool) → (a || (b || c)) ≡ ((a || b) || c)
     assoc a b c = grind arith
 
-pub enqueued_expects : (p : Place) (xs : List Tasked) (i : ℕ) (q : List Message)
-    → list_any (λ (x : Tasked). frame_expects x.frame p) (set xs i (record (get_or xs i idle) { queue = q }))
+pub enqueued_any : (p : Place) (xs : List Tasked) (t : ℕ) (q : Message) → IsAmong t xs
+    → list_any (task_holds p) (set_task xs t (record (at_task xs t idle) {
+      queue = (at_task xs t idle).queue ++ q ∷
+          [];
+    })) ≡ (list_any (task_holds p) xs || option_has q.voucher p)
+enqueued_any p xs zero q l = absurd (none l.0)
+  where
+    none : 1 ≤ 0 → ⊥
+    none g = omega arith
+enqueued_any p xs (suc i) q l = queued_from p xs i q (below i (length xs) l.1)
+  where
+    below : (i n : ℕ) → suc i ≤ n → i < n
+    below i n g = omega arith
+
+pub enqueued_expects : (p : Place) (xs : List Tasked) (t : ℕ) (q : List Message)
+    → list_any (λ (x : Tasked). frame_expects x.frame p) (set_task xs t (record (at_task xs t idle) { queue = q }))
     ≡ list_any (λ (x : Tasked). frame_expects x.frame p) xs
-enqueued_expects p [] i q = refl
-enqueued_expects p (x ∷ xs) zero q = refl
-enqueued_expects p (x ∷ xs) (suc i) q = ap (λ b. frame_expects x.frame p || b) (enqueued_expects p xs i q)
+enqueued_expects p xs zero q = refl
+enqueued_expects p xs (suc i) q = from_place xs i
+  where
+    from_place : (xs : List Tasked) (i : ℕ) → list_any (λ (x : Tasked). frame_expects x.frame p)
+        (set xs i (record (get_or xs i idle) { queue = q })) ≡ list_any (λ (x : Tasked). frame_expects x.frame p) xs
+    from_place [] i = refl
+    from_place (x ∷ xs) zero = refl
+    from_place (x ∷ xs) (suc i) = ap (λ b. frame_expects x.frame p || b) (from_place xs i)

@@ -1,5 +1,5 @@
 -- LetGo, Ask and Recheck, to their own task: a Released entry may follow, and else nothing is seen.
-use Rattle.std.proofs.Common.{◌≡◌, ℕ, ◌-◌, Bool, List, [], ◌∷◌, ◌++◌, refl, true, false, not, ◌||◌, arith, sym, ap, ◌∙◌, subst, length, map, Some, None, Option}
+use Rattle.std.proofs.Common.{◌≡◌, ℕ, Bool, List, [], ◌∷◌, ◌++◌, refl, true, false, not, ◌||◌, arith, sym, ap, ◌∙◌, subst, length, map, Some, None, Option}
 use Rattle.std.specs.Prelude.{if◌then◌else◌, nat_lt, is_some}
 use Rattle.std.specs.List.{list_any, flat_map}
 use Rattle.vch_model.specs.declared.entry.Entry.TheVariants as entries
@@ -8,23 +8,23 @@ use Rattle.vch_model.specs.Store as store
 use Rattle.vch_model.specs.Store.{Member}
 use Rattle.vch_model.specs.After.{store_after}
 use Rattle.vch_model.specs.Legal.{IsUnheld, find_made}
-use Rattle.vch_machine.specs.State.{Place, Living, Claim, Frame, Tally, Machine, tasked, seen, living_at, without_place, member_of, alive_of, is_held, is_expected, frame_holds, is_place, is_empty}
+use Rattle.vch_machine.specs.State.{Place, Living, Claim, Frame, Tally, Machine, idle, tasked, seen, living_at, without_place, member_of, alive_of, is_held, is_expected, frame_holds, is_place, is_empty}
 use Rattle.vch_machine.specs.Frames.{closed, with_frame, tallied}
 use Rattle.vch_machine.specs.Leaving.{is_fixed, is_fixed_value, claim_if, more_claims, do_let_go, released, with_answer, one_ask, do_ask, again, do_recheck, made_of}
 use Rattle.vch_legal.specs.Facts.{Fits, spot, spot_fits}
 use Rattle.vch_legal.specs.Tie.{IsForming, is_answering, is_open}
 use Rattle.vch_legal.proofs.AskSpots.{without_other}
 use Rattle.vch_legal.proofs.EventSpots.{fits_of, claimed_before}
-use Rattle.vch_legal.proofs.FrameSpots.{kept_named, others_expect, claims_before, claims_behind, task_in_range}
-use Rattle.vch_legal.proofs.PutSpots.{known_to}
+use Rattle.vch_legal.proofs.FrameSpots.{kept_named, others_expect, claims_before, claims_behind}
 use Rattle.vch_legal.proofs.SpotSteps.{one}
-use Rattle.vch_legal.proofs.SeenHeld.{none_hold}
+use Rattle.vch_legal.proofs.SeenHeld.{vouchers_hold, none_hold}
 use Rattle.vch_legal.proofs.SeenReleased.{released_legal}
 use Rattle.vch_legal.proofs.SeenSame.{AgreeBut, members_same, member_same}
-use Rattle.vch_legal.proofs.SeenTasks.{seen_frame, own_task, store_with, none_at}
+use Rattle.vch_legal.proofs.SeenTasks.{seen_frame, own_task, frame_in, store_with}
+use Rattle.vch_legal.proofs.TaskItems.{none_at}
 use Rattle.vch_legal.proofs.SeenValues.{numbered, plain_numbered}
 use Rattle.vch_legal.proofs.Follows.{Follows, kept_eq}
-use Rattle.vch_legal.proofs.Lifts.{Lives, forming_kept, map_lives}
+use Rattle.vch_legal.proofs.Lifts.{Lives, forming_kept, map_kept}
 use Rattle.vch_legal.proofs.Standing.{Step}
 use Rattle.vch_legal.proofs.OwnSteps.{Before, framed_step, closed_forming, closed_open, closed_answers}
 
@@ -57,24 +57,24 @@ forming_of sc t m f s e = subst (λ (g : Option Frame). IsForming sc m.live (mem
 
 -- the frame goes on as another one, or is gone
 pub closed_step : (sc : Scenario) (t : ℕ) (m : Machine) (f g : Frame) → Before sc t m → (tasked m t).frame ≡ Some f
-    → is_some g.forming ≡ is_some f.forming
+    → g.answered ≡ f.answered
     → IsForming sc m.live (member_of m.live (tasked m t)) t (tasked m t).begun (Some g)
     → Step sc t m (with_frame m t (closed g))
 closed_step sc t m f g s e same forming =
     framed_step sc t m (with_frame m t (closed g)) (closed g) s (Follows.Quiet refl (seen_frame m t (closed g)))
     (Lives.Same refl) refl
-    (own_task m t (record (tasked m t) { frame = closed g }) (task_in_range m t f e))
-    (closed_answers g ∙ (same ∙ sym (ap is_answering e)))
+    (own_task m t (record (tasked m t) { frame = closed g }) (frame_in m t f e))
+    (closed_answers g ∙ (ap not same ∙ sym (ap is_answering e)))
     (closed_forming g sc m.live (member_of m.live (tasked m t)) t (tasked m t).begun forming) (closed_open g)
 
 pub open_step : (sc : Scenario) (t : ℕ) (m : Machine) (f g : Frame) → Before sc t m → (tasked m t).frame ≡ Some f
-    → is_some g.forming ≡ is_some f.forming
+    → g.answered ≡ f.answered
     → IsForming sc m.live (member_of m.live (tasked m t)) t (tasked m t).begun (Some g) → is_open g ≡ true
     → Step sc t m (with_frame m t (Some g))
 open_step sc t m f g s e same forming open_frame =
     framed_step sc t m (with_frame m t (Some g)) (Some g) s (Follows.Quiet refl (seen_frame m t (Some g)))
     (Lives.Same refl) refl
-    (own_task m t (record (tasked m t) { frame = Some g }) (task_in_range m t f e)) (same ∙ sym (ap is_answering e))
+    (own_task m t (record (tasked m t) { frame = Some g }) (frame_in m t f e)) (ap not same ∙ sym (ap is_answering e))
     forming open_frame
 
 pub let_go_step : (sc : Scenario) (t : ℕ) (m : Machine) (f : Frame) (q : Place) (rest : List Place) → Before sc t m
@@ -140,11 +140,11 @@ live_forming sc t m n f s e lives same =
     subst (λ (g : Option Frame). IsForming sc n.live (member_of n.live (tasked m t)) t (tasked m t).begun g) e
     (forming_kept sc m.live n.live (member_of m.live (tasked m t)) (member_of n.live (tasked m t)) t
     (tasked m t).begun (tasked m t).frame
-    (kept_eq _ _ same) (λ g v. map_lives m n lives t g v) s.forming)
+    (kept_eq _ _ same) (λ g v. map_kept m n lives t g v) s.forming)
 
 -- a frame with a claim has something to do
 claim_open : (f : Frame) (c : Claim) → is_open (record f { claim = Some c }) ≡ true
-claim_open f c = third (is_some f.forming) (is_some f.receipt) (not (is_empty f.lets))
+claim_open f c = third (not f.answered) (is_some f.receipt) (not (is_empty f.lets))
   where
     third : (a b d : Bool) → (a || (b || (true || d))) ≡ true
     third a b d = grind arith
@@ -160,7 +160,7 @@ released_step sc t m f c a fits s e live plain held expected =
     (subst (λ (o : Option Living). IsUnheld (seen m) (find_made (seen m).live (made_of o))) (sym live)
     (released_legal m c.place a fits.different (numbered sc m fits) live positive held)) tt)
     lives refl (own_task (released m c.place) t (record (tasked m t) { frame = with_answer f c true })
-    (task_in_range m t f e)) (sym (ap is_answering e))
+    (frame_in m t f e)) (sym (ap is_answering e))
     (live_forming sc t m n f s e lives own) (claim_open f (record c { answer = Some true }))
   where
     n : Machine
@@ -169,7 +169,7 @@ released_step sc t m f c a fits s e live plain held expected =
     positive : nat_lt 0 a.made ≡ true
     positive = plain_numbered sc m c.place a fits live (ap is_fixed_value (sym live) ∙ plain)
 
-    unknown : list_any (λ x. known_to x c.place) m.tasks ≡ false
+    unknown : list_any (vouchers_hold c.place) m.tasks ≡ false
     unknown = none_hold c.place m.tasks held
 
     members : map (member_of (without_place m.live c.place)) m.tasks ≡ map (member_of m.live) m.tasks
@@ -190,7 +190,7 @@ released_step sc t m f c a fits s e live plain held expected =
 
     own : member_of (without_place m.live c.place) (tasked m t) ≡ member_of m.live (tasked m t)
     own = member_same (without_place m.live c.place) m.live c.place (tasked m t) (released_agree m c.place)
-        (none_at (λ x. known_to x c.place) m.tasks (t - 1) refl unknown)
+        (none_at (vouchers_hold c.place) m.tasks t idle refl unknown)
 
 pub step_if : (sc : Scenario) (t : ℕ) (m a b : Machine) (c : Bool) → (c ≡ true → Step sc t m a)
     → (c ≡ false → Step sc t m b) → Step sc t m (if c then a else b)

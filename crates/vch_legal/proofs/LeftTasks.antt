@@ -1,5 +1,5 @@
 -- What is left where one task of all is replaced, and where claims are raced or back.
-use Rattle.std.proofs.Common.{◌≡◌, ℕ, zero, suc, ◌+◌, ◌-◌, ◌*◌, ◌<◌, ◌≤◌, Bool, List, [], ◌∷◌, ◌++◌, refl, true, false, not, ◌&&◌, arith, ap, ◌∙◌, subst, length, length-append, map, drop, get_or, Some, None, Option}
+use Rattle.std.proofs.Common.{◌≡◌, ℕ, zero, suc, ◌+◌, ◌*◌, ◌<◌, ◌≤◌, Bool, List, [], ◌∷◌, ◌++◌, refl, true, false, not, ◌&&◌, arith, ap, ◌∙◌, subst, length, length-append, map, drop, get_or, Some, None, Option}
 use Rattle.std.proofs.Math.ListN.{set}
 use Rattle.std.specs.Prelude.{if◌then◌else◌, is_some}
 use Rattle.std.specs.List.{flat_map}
@@ -12,7 +12,8 @@ use Rattle.vch_machine.specs.Frames.{closed, with_frame}
 use Rattle.vch_machine.specs.Making.{race_claim, back_claim, on_claim, on_frame, on_task, on_claims}
 use Rattle.vch_machine.specs.Next.{nth_call}
 use Rattle.vch_legal.specs.Facts.{Fits, Spot, spot, spot_fits}
-use Rattle.vch_legal.specs.Left.{claim_left, frame_base, frame_left, lines_left, task_left, tasks_left}
+use Rattle.vch_legal.specs.Left.{claim_left, frame_base, frame_left, lines_left, owned_left, task_left, tasks_left}
+use Rattle.vch_legal.proofs.TaskLists.{IsAmong}
 
 -- one task is replaced
 set_left : (sc : Scenario) (t : ℕ) (xs : List Tasked) (i : ℕ) (y : Tasked) → i < length xs
@@ -43,65 +44,96 @@ set_left sc t (x ∷ xs) (suc i) y l =
 abbrev pub Left : Scenario → Machine → ℕ
 Left sc m = tasks_left sc 1 m.tasks
 
--- the place of a task is its number
-pub of_number : (sc : Scenario) (t : ℕ) (x : Tasked) → 0 < t → task_left sc (1 + (t - 1)) x ≡ task_left sc t x
-of_number sc t x l = ap (λ n. task_left sc n x) (back t l)
-  where
-    back : (t : ℕ) → 0 < t → 1 + (t - 1) ≡ t
-    back t l = omega arith
-
-pub task_set : (sc : Scenario) (t : ℕ) (m : Machine) (y : Tasked) → 0 < t → t - 1 < length m.tasks
+pub task_set : (sc : Scenario) (t : ℕ) (m : Machine) (y : Tasked) → IsAmong t m.tasks
     → Left sc (with_tasked m t y) + task_left sc t (tasked m t) ≡ Left sc m + task_left sc t y
-task_set sc t m y p l =
-    let a : Left sc (with_tasked m t y) + task_left sc (1 + (t - 1)) (tasked m t)
-    ≡ Left sc m + task_left sc (1 + (t - 1)) y = set_left sc 1 m.tasks (t - 1) y l in
-    let b : task_left sc (1 + (t - 1)) (tasked m t) ≡ task_left sc t (tasked m t) = of_number sc t (tasked m t) p in
-    let c : task_left sc (1 + (t - 1)) y ≡ task_left sc t y = of_number sc t y p in omega arith
-
--- one task is replaced by one that has as much left
-same_set : (sc : Scenario) (t : ℕ) (xs : List Tasked) (i : ℕ) (y : Tasked) → y.begun ≡ (get_or xs i idle).begun
-    → y.frame ≡ (get_or xs i idle).frame → tasks_left sc t (set xs i y) ≡ tasks_left sc t xs
-same_set sc t [] i y b f = refl
-same_set sc t (x ∷ xs) zero y b f = ap (λ n. n + tasks_left sc (t + 1) xs) (alike y b f)
+task_set sc zero m y l = absurd (none l.0)
   where
-    alike : (y : Tasked) → y.begun ≡ x.begun → y.frame ≡ x.frame → task_left sc t y ≡ task_left sc t x
-    alike y b f = ap (λ n. task_left sc t (record y { begun = n })) b
-        ∙ ap (λ g. task_left sc t (record x { frame = g })) f
-same_set sc t (x ∷ xs) (suc i) y b f = ap (λ n. task_left sc t x + n) (same_set sc (t + 1) xs i y b f)
+    none : 1 ≤ 0 → ⊥
+    none l = omega arith
+task_set sc (suc i) m y l =
+    subst (λ k. tasks_left sc 1 (set m.tasks i y) + task_left sc k (get_or m.tasks i idle) ≡ tasks_left sc 1 m.tasks +
+    task_left sc k y)
+    (number i) (set_left sc 1 m.tasks i y (place i (length m.tasks) l.1))
+  where
+    number : (i : ℕ) → 1 + i ≡ suc i
+    number i = omega arith
 
-pub same_task : (sc : Scenario) (t : ℕ) (m : Machine) (y : Tasked) → y.begun ≡ (tasked m t).begun → y.frame
-    ≡ (tasked m t).frame → Left sc (with_tasked m t y) ≡ Left sc m
-same_task sc t m y b f = same_set sc 1 m.tasks (t - 1) y b f
+    place : (i n : ℕ) → suc i ≤ n → i < n
+    place i n l = omega arith
+
+-- one task is replaced by one that has no more left
+same_set : (sc : Scenario) (t n : ℕ) (xs : List Tasked) (i : ℕ) (y : Tasked) → y.begun ≡ (get_or xs i idle).begun
+    → y.frame ≡ (get_or xs i idle).frame → owned_left y ≤ owned_left (get_or xs i idle) + n
+    → tasks_left sc t (set xs i y) ≤ tasks_left sc t xs + n
+same_set sc t n [] i y b f o = omega arith
+same_set sc t n (x ∷ xs) zero y b f o =
+    let a : lines_left (drop y.begun (lines_of sc t)) ≡ lines_left (drop x.begun (lines_of sc t)) =
+    ap (λ k. lines_left (drop k (lines_of sc t))) b in
+    let c : frame_left sc.version (nth_call sc t y.begun) y.frame ≡ frame_left sc.version (nth_call sc t x.begun)
+    x.frame =
+    ap (λ k. frame_left sc.version (nth_call sc t k) y.frame) b ∙ ap (frame_left sc.version (nth_call sc t x.begun)) f
+    in
+    over (lines_left (drop y.begun (lines_of sc t))) _ _ _ _ _ (tasks_left sc (t + 1) xs) n a c o
+  where
+    over : (a a2 c c2 o o2 r n : ℕ) → a ≡ a2 → c ≡ c2 → o ≤ o2 + n → a + c + o + r ≤ a2 + c2 + o2 + r + n
+    over a a2 c c2 o o2 r n e g h = omega arith
+same_set sc t n (x ∷ xs) (suc i) y b f o =
+    let h : tasks_left sc (t + 1) (set xs i y) ≤ tasks_left sc (t + 1) xs + n = same_set sc (t + 1) n xs i y b f o in
+    over (task_left sc t x) (tasks_left sc (t + 1) (set xs i y)) (tasks_left sc (t + 1) xs) n h
+  where
+    over : (a b c n : ℕ) → b ≤ c + n → a + b ≤ a + c + n
+    over a b c n h = omega arith
+
+-- one that has as much more as it owns
+pub same_task : (sc : Scenario) (t n : ℕ) (m : Machine) (y : Tasked) → y.begun ≡ (tasked m t).begun
+    → y.frame ≡ (tasked m t).frame → owned_left y ≤ owned_left (tasked m t) + n
+    → Left sc (with_tasked m t y) ≤ Left sc m + n
+same_task sc zero n m y b f o = omega arith
+same_task sc (suc i) n m y b f o = same_set sc 1 n m.tasks i y b f o
+
+-- the call that a task has begun last
+abbrev pub call_now : Scenario → ℕ → Machine → Option Call
+call_now sc t m = nth_call sc t (tasked m t).begun
 
 -- a frame is replaced by one that has less left
-pub frame_set : (sc : Scenario) (t : ℕ) (m : Machine) (g : Option Frame) → 0 < t → t - 1 < length m.tasks
-    → Left sc (with_frame m t g) + frame_left (nth_call sc t (tasked m t).begun) (tasked m t).frame
-    ≡ Left sc m + frame_left (nth_call sc t (tasked m t).begun) g
-frame_set sc t m g p l =
-    drop_same (Left sc (with_frame m t g)) (Left sc m) _ _ _ (task_set sc t m (record (tasked m t) { frame = g }) p l)
+pub frame_set : (sc : Scenario) (t : ℕ) (m : Machine) (g : Option Frame) → IsAmong t m.tasks
+    → Left sc (with_frame m t g) + frame_left sc.version (call_now sc t m) (tasked m t).frame
+    ≡ Left sc m + frame_left sc.version (call_now sc t m) g
+frame_set sc t m g l =
+    drop_same (Left sc (with_frame m t g)) (Left sc m) _ _ _ _ (task_set sc t m (record (tasked m t) { frame = g }) l)
   where
-    drop_same : (a b c d e : ℕ) → a + (c + d) ≡ b + (c + e) → a + d ≡ b + e
-    drop_same a b c d e h = omega arith
+    drop_same : (a b c d e o : ℕ) → a + (c + d + o) ≡ b + (c + e + o) → a + d ≡ b + e
+    drop_same a b c d e o h = omega arith
 
 -- a frame that is gone had nothing left
-pub closed_left : (call : Option Call) (g : Frame) → frame_left call (closed g) ≡ frame_left call (Some g)
-closed_left call g = by_parts g.forming g.at_byte g.keys g.receipt g.lets g.claim
+pub closed_left : (version : ℕ) (call : Option Call) (g : Frame) → frame_left version call (closed g)
+    ≡ frame_left version call (Some g)
+closed_left version call g = by_parts g.forming g.answered g.at_byte g.keys g.receipt g.lets g.claim
   where
-    by_parts : (v : Option Handles) (n : ℕ) (ks : List Key) (r : Option Place) (lets : List Place) (c : Option Claim)
-        → frame_left call (closed (record {
+    by_parts : (v : Option Handles) (answered : Bool) (n : ℕ) (ks : List Key) (r : Option Place) (lets : List Place)
+        (c : Option Claim) → frame_left version call (closed (record {
           forming = v;
+          answered = answered;
           at_byte = n;
           keys = ks;
           receipt = r;
           lets = lets;
           claim = c;
         }))
-        ≡ frame_left call (Some (record { forming = v; at_byte = n; keys = ks; receipt = r; lets = lets; claim = c }))
-    by_parts (Some v) n ks r lets c = refl
-    by_parts None n ks (Some r) lets c = refl
-    by_parts None n ks None lets (Some c) = refl
-    by_parts None n ks None (q ∷ lets) None = refl
-    by_parts None n ks None [] None = omega arith
+        ≡ frame_left version call (Some (record {
+          forming = v;
+          answered = answered;
+          at_byte = n;
+          keys = ks;
+          receipt = r;
+          lets = lets;
+          claim = c;
+        }))
+    by_parts v false n ks r lets c = refl
+    by_parts v true n ks (Some r) lets c = refl
+    by_parts v true n ks None lets (Some c) = refl
+    by_parts v true n ks None (q ∷ lets) None = refl
+    by_parts v true n ks None [] None = omega arith
 
 -- claims that are raced have as much left
 race_left : (p : Place) (c : Option Claim) → claim_left (on_claim (race_claim p) c) ≡ claim_left c
@@ -112,20 +144,21 @@ race_left p (Some c) = by_test (same_place c.place p && not (is_some c.answer))
     by_test true = refl
     by_test false = refl
 
-race_frame : (call : Option Call) (p : Place) (f : Option Frame) → frame_left call (on_frame (race_claim p) f)
-    ≡ frame_left call f
-race_frame call p None = refl
-race_frame call p (Some f) = ap (λ n. frame_base call f + n) (race_left p f.claim)
+race_frame : (version : ℕ) (call : Option Call) (p : Place) (f : Option Frame)
+    → frame_left version call (on_frame (race_claim p) f)
+    ≡ frame_left version call f
+race_frame version call p None = refl
+race_frame version call p (Some f) = ap (λ n. frame_base version call f + n) (race_left p f.claim)
 
 race_tasks : (sc : Scenario) (t : ℕ) (p : Place) (xs : List Tasked)
     → tasks_left sc t (map (on_task (race_claim p)) xs) ≡ tasks_left sc t xs
 race_tasks sc t p [] = refl
 race_tasks sc t p (x ∷ xs) =
-    both (lines_left (drop x.begun (lines_of sc t))) _ _ _ _ (race_frame (nth_call sc t x.begun) p x.frame)
-    (race_tasks sc (t + 1) p xs)
+    both (lines_left (drop x.begun (lines_of sc t))) (owned_left x) _ _ _ _
+    (race_frame sc.version (nth_call sc t x.begun) p x.frame) (race_tasks sc (t + 1) p xs)
   where
-    both : (e a b c d : ℕ) → a ≡ b → c ≡ d → e + a + c ≡ e + b + d
-    both e a b c d h k = omega arith
+    both : (e o a b c d : ℕ) → a ≡ b → c ≡ d → e + a + o + c ≡ e + b + o + d
+    both e o a b c d h k = omega arith
 
 pub race_all : (sc : Scenario) (m : Machine) (p : Place) → Left sc (on_claims (race_claim p) m) ≡ Left sc m
 race_all sc m p = race_tasks sc 1 p m.tasks
@@ -144,10 +177,11 @@ back_left p (Some c) = by_test (same_place c.place p)
         more n b = omega arith
     by_test false = omega arith
 
-back_frame : (call : Option Call) (p : Place) (f : Option Frame)
-    → frame_left call (on_frame (back_claim p) f) ≤ frame_left call f + 3 * length (frame_claims f p)
-back_frame call p None = omega arith
-back_frame call p (Some f) = let i : claim_left (on_claim (back_claim p) f.claim) ≤ claim_left f.claim + 3 * length
+back_frame : (version : ℕ) (call : Option Call) (p : Place) (f : Option Frame)
+    → frame_left version call (on_frame (back_claim p) f) ≤ frame_left version call f + 3 * length (frame_claims f p)
+back_frame version call p None = omega arith
+back_frame version call p (Some f) = let i : claim_left (on_claim (back_claim p) f.claim) ≤ claim_left f.claim + 3 *
+    length
     (claim_at f.claim p) = back_left p f.claim in omega arith
 
 back_tasks : (sc : Scenario) (t : ℕ) (p : Place) (xs : List Tasked)
@@ -155,8 +189,9 @@ back_tasks : (sc : Scenario) (t : ℕ) (p : Place) (xs : List Tasked)
     (flat_map (λ (x : Tasked). frame_claims x.frame p) xs)
 back_tasks sc t p [] = omega arith
 back_tasks sc t p (x ∷ xs) =
-    let i : frame_left (nth_call sc t x.begun) (on_frame (back_claim p) x.frame) ≤ frame_left (nth_call sc t x.begun)
-    x.frame + 3 * length (frame_claims x.frame p) = back_frame (nth_call sc t x.begun) p x.frame in
+    let i : frame_left sc.version (nth_call sc t x.begun) (on_frame (back_claim p) x.frame) ≤ frame_left sc.version
+    (nth_call sc t x.begun)
+    x.frame + 3 * length (frame_claims x.frame p) = back_frame sc.version (nth_call sc t x.begun) p x.frame in
     let j : tasks_left sc (t + 1) (map (on_task (back_claim p)) xs) ≤ tasks_left sc (t + 1) xs + 3 * length
     (flat_map (λ (x : Tasked). frame_claims x.frame p) xs) = back_tasks sc (t + 1) p xs in
     let k : length (frame_claims x.frame p ++ flat_map (λ (x : Tasked). frame_claims x.frame p) xs)

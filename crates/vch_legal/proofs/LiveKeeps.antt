@@ -6,21 +6,24 @@ use Rattle.std.specs.Prelude.{◌⊎◌, is_some, if◌then◌else◌, ◌==◌,
 use Rattle.vch_base.specs.declared.key.Key.{Key}
 use Rattle.vch_base.specs.declared.key.Key.TheVariants as keys
 use Rattle.vch_base.specs.Keys.{number_of}
+use Rattle.vch_base.specs.Keyed.{Keyed, of_key}
 use Rattle.vch_base.specs.declared.value.Value.{Value}
 use Rattle.vch_base.specs.Values.{equal_values}
 use Rattle.vch_model.specs.declared.lists.Scenario.{Scenario}
 use Rattle.vch_model.specs.Lines.{is_task}
-use Rattle.vch_machine.specs.State.{Keyed, of_key, Place, same_place, Living, Pool, Machine, Claim, Frame, living_at, without_place, handle_of, default_place, default_living, tasked}
+use Rattle.vch_machine.specs.State.{Place, same_place, Living, Pool, Machine, Claim, Frame, living_at, without_place, handle_of, default_place, default_living, tasked}
 use Rattle.vch_machine.specs.Frames.{with_frame, tallied}
 use Rattle.vch_machine.specs.Leaving.{released, is_fixed, is_fixed_value, with_answer, one_ask}
 use Rattle.vch_machine.specs.Making.{minted, fresh_handle, made_at}
 use Rattle.vch_legal.specs.Facts.{Fits, Different, ValueFits, ValuesFit, NumbersFit, bit, times, Spot, spot, spot_fits}
+use Rattle.vch_legal.proofs.Choices.{and_left, cases_bool}
 use Rattle.vch_legal.proofs.Places.{same_place_eq}
 use Rattle.vch_legal.proofs.SpotSteps.{one}
-use Rattle.vch_legal.proofs.EventSpots.{cases_bool, fits_of, claimed_spot, claimed_before}
+use Rattle.vch_legal.proofs.EventSpots.{fits_of, claimed_spot, claimed_before}
 use Rattle.vch_legal.proofs.FrameSpots.{claims_before, claims_behind}
 use Rattle.vch_legal.proofs.AskSpots.{without_here, without_other}
-use Rattle.vch_legal.proofs.MakeSpots.{append_here, append_other, fresh_dead}
+use Rattle.vch_legal.proofs.FoundValues.{append_here, append_other}
+use Rattle.vch_legal.proofs.MakeSpots.{fresh_dead}
 use Rattle.vch_legal.proofs.SeenHeld.{values_refl}
 use Rattle.vch_legal.proofs.Values.{ask_each_once, ask_different, ask_default, make_each_once, found_append}
 use Rattle.vch_legal.proofs.ValuesMade.{asked_value}
@@ -145,9 +148,6 @@ claimed_live sc m t f c h e claim a =
     s : Spot
     s = claimed_spot m t f c.place (c ∷ [])
 
-    left_of : (x y : Bool) → (x && y) ≡ true → x ≡ true
-    left_of x y g = grind arith
-
     right_of : (x y : Bool) → (x && not y) ≡ true → y ≡ false
     right_of x y g = grind arith
 
@@ -157,7 +157,7 @@ claimed_live sc m t f c h e claim a =
     of_living : (o : Option Living) → living_at m.live c.place ≡ o
         → (is_some (living_at m.live c.place) && not (is_fixed m c.place)) ≡ true → Claimed m c.place
     of_living None g k = absurd (no_value (living_at m.live c.place) g
-        (left_of (is_some (living_at m.live c.place)) (not (is_fixed m c.place)) k))
+        (and_left (is_some (living_at m.live c.place)) (not (is_fixed m c.place)) k))
       where
         no_value : (o : Option Living) → o ≡ None → is_some o ≡ true → ⊥
         no_value None x i = let j : false ≡ true = i in cc
@@ -194,6 +194,7 @@ found_new [] l e = rw (key_refl l.place.key, values_refl l.value) refl
     key_refl keys.Importance = refl
     key_refl keys.Bank = refl
     key_refl keys.User = refl
+    key_refl keys.Test = refl
 found_new (x ∷ live) l e =
     cases_bool ((number_of x.place.key == number_of l.place.key) && equal_values x.value l.value)
     (handle_of (x ∷ live ++ l ∷ []) l.place.key l.value ≡ Some l.place.handle)

@@ -3,17 +3,20 @@ use Rattle.std.proofs.Common.{◌≡◌, ℕ, ◌+◌, Bool, List, [], ◌∷◌
 use Rattle.std.specs.Prelude.{is_some, if◌then◌else◌, ◌==◌, nat_lt}
 use Rattle.vch_base.specs.declared.key.Key.{Key}
 use Rattle.vch_base.specs.Keys.{number_of}
+use Rattle.vch_base.specs.Keyed.{of_key}
 use Rattle.vch_base.specs.declared.value.Value.{Value}
 use Rattle.vch_base.specs.Values.{equal_values, is_default}
-use Rattle.vch_machine.specs.State.{of_key, Place, same_place, Living, Frame, Machine, tasked, is_place, is_held, is_expected, claims_on, living_at, handle_of}
+use Rattle.vch_machine.specs.State.{Place, same_place, Living, Frame, Machine, tasked, is_place, is_held, is_expected, claims_on, living_at, handle_of}
 use Rattle.vch_machine.specs.Frames.{with_frame}
 use Rattle.vch_machine.specs.Leaving.{is_fixed}
 use Rattle.vch_machine.specs.Making.{race_claim, given_receipt, minted, made_at, fresh_handle}
 use Rattle.vch_legal.specs.Facts.{spot, spot_fits, EachOnce, bit, times}
+use Rattle.vch_legal.proofs.FoundValues.{append_here, append_other}
+use Rattle.vch_legal.proofs.Choices.{cases_bool}
 use Rattle.vch_legal.proofs.SpotSteps.{one, make_old, make_new, raced_now}
 use Rattle.vch_legal.proofs.Places.{same_place_eq, same_place_refl}
 use Rattle.vch_legal.proofs.FrameSpots.{one_eq, others_expect, spot_by, spot_set, spot_of, spot_same, task_in_range}
-use Rattle.vch_legal.proofs.EventSpots.{AllFit, cases_bool, fits_of}
+use Rattle.vch_legal.proofs.EventSpots.{AllFit, fits_of}
 use Rattle.vch_legal.proofs.ClaimMaps.{spot_on, spot_on_other, race_here, race_other}
 use Rattle.vch_legal.proofs.AskSpots.{spot_live}
 
@@ -58,26 +61,6 @@ given_fits m t f q e receipt live h p =
     (fits_of (one true (is_fixed m q) (is_held m q) (is_expected m q) (claims_on m q)) (spot m q)
     (ap (λ x. one x (is_fixed m q) (is_held m q) (is_expected m q) (claims_on m q)) (sym live)) (h q)))))
     (λ other. fits_of (spot (given_receipt m t f q) p) (spot m p) (given_other m t f q p e receipt other) (h p))
-
-pub append_other : (live : List Living) (l : Living) (p : Place) → same_place l.place p ≡ false
-    → living_at (live ++ l ∷ []) p ≡ living_at live p
-append_other [] l p e = rw e
-append_other (x ∷ live) l p e = rw (append_other live l p e)
-
-if_true : {A : Type 0} (b : Bool) (y z : A) → b ≡ true → (if b then y else z) ≡ y
-if_true b y z k = rw k
-
-if_false : {A : Type 0} (b : Bool) (y z : A) → b ≡ false → (if b then y else z) ≡ z
-if_false b y z k = rw k
-
-pub append_here : (live : List Living) (l : Living) → living_at live l.place ≡ None
-    → living_at (live ++ l ∷ []) l.place ≡ Some l
-append_here [] l e = rw (same_place_refl l.place)
-append_here (x ∷ live) l e =
-    cases_bool (same_place x.place l.place) (living_at (x ∷ live ++ l ∷ []) l.place ≡ Some l)
-    (λ here. let k : Some x ≡ None = sym (if_true _ _ _ here) ∙ e in cc)
-    (λ other. let k : living_at live l.place ≡ None = sym (if_false _ _ _ other) ∙ e in if_false _ _ _ other
-    ∙ append_here live l k)
 
 -- a receipt for a value that is made at a place that was not live
 pub minted_fits : (m : Machine) (t : ℕ) (f : Frame) (k : Key) (x : Value) (q : Place)

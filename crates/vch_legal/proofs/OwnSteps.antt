@@ -1,6 +1,6 @@
 -- What an event does to its own task: it changes the frame, or it answers the call.
 use Rattle.std.proofs.Common.{◌≡◌, ℕ, ◌+◌, ◌<◌, ◌≤◌, Bool, List, ◌∷◌, refl, true, false, ◌||◌, arith, sym, ap, ◌∙◌, subst, Some, None, Option}
-use Rattle.std.specs.Prelude.{if◌then◌else◌, ◌==◌, is_some}
+use Rattle.std.specs.Prelude.{if◌then◌else◌, ◌==◌, not}
 use Rattle.vch_model.specs.declared.call.Call.{Call}
 use Rattle.vch_model.specs.declared.call.Line.{Line}
 use Rattle.vch_model.specs.declared.entry.Entry.TheVariants as entries
@@ -9,13 +9,13 @@ use Rattle.vch_model.specs.declared.lists.Scenario.{Scenario}
 use Rattle.vch_model.specs.Store.{Member}
 use Rattle.vch_model.specs.Words.{word_of}
 use Rattle.vch_model.specs.After.{is_want, store_after_call, store_after_line}
-use Rattle.vch_model.specs.Lines.{calls_in, phases_in, lines_until, line_at}
+use Rattle.vch_model.specs.Lines.{calls_in, phases_in, lines_until, line_at, call_of_phase, current_call}
 use Rattle.vch_model.specs.Legal.{IsAnswer, Answers}
 use Rattle.vch_machine.specs.State.{Living, Handles, Frame, Tasked, Machine, tasked, seen, member_of}
 use Rattle.vch_machine.specs.Frames.{closed}
 use Rattle.vch_machine.specs.Next.{nth_call, call_in}
 use Rattle.vch_legal.specs.Facts.{bit}
-use Rattle.vch_legal.specs.Tie.{FrameForms, IsForming, is_answering, is_open, IsOpen, TaskStands}
+use Rattle.vch_legal.specs.Tie.{FormsNothing, FrameForms, IsForming, is_answering, is_open, IsOpen, TaskStands}
 use Rattle.vch_legal.proofs.PhaseLines.{phase_of_line}
 use Rattle.vch_legal.proofs.Follows.{Follows}
 use Rattle.vch_legal.proofs.Lifts.{Lives}
@@ -41,16 +41,22 @@ framed_step sc t m n g s follows lives same_calls own answers forming open_frame
   open_frame = subst (λ (x : Tasked). IsOpen x.frame) (sym own) open_frame;
 }
 
--- where nothing is formed, nothing is to be shown
-pub unformed : (sc : Scenario) (live : List Living) (x : Member) (t begun : ℕ) (f : Option Frame) → is_answering f
-    ≡ false → IsForming sc live x t begun f
-unformed sc live x t begun None e = tt
-unformed sc live x t begun (Some f) e = by_forming f.forming e
-  where
-    by_forming : (v : Option Handles) → is_some v ≡ false → FrameForms sc live x t f.at_byte f.keys f.receipt v
-        (nth_call sc t begun)
-    by_forming None e = tt
-    by_forming (Some v) e = cc
+-- a frame that is there was answered, and forms nothing
+abbrev pub IsSettled : Option Frame → Type 0
+IsSettled None = Unit {0}
+IsSettled (Some f) = (f.answered ≡ true) × (f.forming ≡ None)
+
+pub settled_quiet : (f : Option Frame) → IsSettled f → is_answering f ≡ false
+settled_quiet None h = refl
+settled_quiet (Some f) h = ap not h.0
+
+-- so nothing is to be shown of what it forms
+pub unformed : (sc : Scenario) (live : List Living) (x : Member) (t begun : ℕ) (f : Option Frame) → IsSettled f
+    → IsForming sc live x t begun f
+unformed sc live x t begun None h = tt
+unformed sc live x t begun (Some f) h =
+    subst (λ (v : Option Handles). FrameForms sc live x t f.at_byte f.keys f.receipt f.answered v (nth_call sc t begun))
+    (sym h.1) (subst (λ b. FormsNothing b (nth_call sc t begun)) (sym h.0) tt)
 
 closed_by : (b : Bool) (g : Frame) (sc : Scenario) (live : List Living) (x : Member) (t begun : ℕ)
     → IsForming sc live x t begun (Some g) → IsForming sc live x t begun (if b then Some g else None)
@@ -68,21 +74,25 @@ closed_open g = by_open (is_open g) refl
     by_open true e = e
     by_open false e = tt
 
-pub closed_answers : (g : Frame) → is_answering (closed g) ≡ is_some g.forming
-closed_answers g = by_forming (is_some g.forming) _ refl
+pub closed_answers : (g : Frame) → is_answering (closed g) ≡ not g.answered
+closed_answers g = by_answered (not g.answered) _ refl
   where
-    by_forming : (b c : Bool) → is_some g.forming ≡ b → is_answering (if b || c then Some g else None) ≡ b
-    by_forming true c e = e
-    by_forming false true e = e
-    by_forming false false e = refl
+    by_answered : (b c : Bool) → not g.answered ≡ b → is_answering (if b || c then Some g else None) ≡ b
+    by_answered true c e = e
+    by_answered false true e = e
+    by_answered false false e = refl
 
 -- a frame that is there after its call was answered
 pub record Answered (f : Option Frame) : Type 0 where
-  pub quiet : is_answering f ≡ false
+  pub settled : IsSettled f
   pub open_frame : IsOpen f
 
-pub closed_answered : (g : Frame) → g.forming ≡ None → Answered (closed g)
-closed_answered g e = record { quiet = closed_answers g ∙ ap is_some e; open_frame = closed_open g }
+pub closed_answered : (g : Frame) → g.answered ≡ true → g.forming ≡ None → Answered (closed g)
+closed_answered g a e = record { settled = by_test _; open_frame = closed_open g }
+  where
+    by_test : (b : Bool) → IsSettled (if b then Some g else None)
+    by_test true = (a, e)
+    by_test false = tt
 
 -- a call that is there has a line
 abbrev LineFor : Scenario → ℕ → ℕ → Call → Type 0
@@ -98,7 +108,26 @@ line_for sc t n call e = of_line (line_at sc t n) refl e
         some_eq : (a b : Call) → Some a ≡ Some b → a ≡ b
         some_eq a b i = cc
 
--- a call that is answered by the store, or by want of memory
+-- the call that is begun last is the current one, while it is not answered
+pub current_is : (sc : Scenario) (t : ℕ) (m : Machine) (k : ℕ) (call : Call) → Before sc t m
+    → k ≡ calls_in m.past t + 1 → k ≤ lines_until sc (phases_in m.past + 1) t → nth_call sc t k ≡ Some call
+    → current_call sc m.past t ≡ Some call
+current_is sc t m k call s number high there = by_line (line_for sc t k call there)
+  where
+    by_line : LineFor sc t k call → current_call sc m.past t ≡ Some call
+    by_line (l, e, g) =
+        ap (λ n. call_of_phase (phases_in m.past + 1) (line_at sc t n)) (sym number)
+        ∙ (ap (call_of_phase (phases_in m.past + 1)) e
+        ∙ (ap (λ b. if b then Some l.1.call else None) (same l.0 (phases_in m.past + 1)
+        (phase_of_line sc t k (phases_in m.past) l e low high)) ∙ ap Some g))
+      where
+        low : lines_until sc (phases_in m.past) t < k
+        low = let a : lines_until sc (phases_in m.past) t ≤ calls_in m.past t = s.answered in omega arith
+
+        same : (a b : ℕ) → a ≡ b → (a == b) ≡ true
+        same a b e = grind arith
+
+-- a call that is answered by the store, by being out of memory, or at the end of an exit
 pub call_follows : (sc : Scenario) (t : ℕ) (m n : Machine) (k : ℕ) (call : Call) (reply : Reply) → Before sc t m → k
     ≡ calls_in m.past t + 1 → k ≤ lines_until sc (phases_in m.past + 1) t
     → nth_call sc t k ≡ Some call → n.past ≡ entries.Call t k (word_of call) reply ∷ m.past
@@ -112,17 +141,10 @@ call_follows sc t m n k call reply s number high there past store answer = by_li
         (store ∙ ap (λ x. if is_want reply then seen m else x)
         (ap (λ c. store_after_call sc (seen m) t c) (sym g) ∙ ap (λ o. store_after_line sc (seen m) t o) (sym e))) (
           number,
-          subst (λ (o : Option (ℕ × Line)). Answers sc m.past (seen m) t o (word_of call) reply) (sym e) (
-            phase_of_line sc t k (phases_in m.past) l e low high,
-            ap word_of (sym g),
-            subst
-                (λ (c : Call). IsAnswer sc m.past (seen m) t c reply) (sym g) answer,
-          ),
+          subst (λ (o : Option Call). Answers sc m.past (seen m) t o (word_of call) reply)
+              (sym (current_is sc t m k call s number high there)) (refl, answer),
         )
         refl
-      where
-        low : lines_until sc (phases_in m.past) t < k
-        low = let a : lines_until sc (phases_in m.past) t ≤ calls_in m.past t = s.answered in omega arith
 
 -- the event answers the call of its frame
 pub answered_step : (sc : Scenario) (t : ℕ) (m n : Machine) (call : Call) (reply : Reply) → Before sc t m
@@ -135,9 +157,11 @@ answered_step sc t m n call reply s under there past live begun answered store a
   follows = call_follows sc t m n (tasked m t).begun call reply s number s.begun there past store answer;
   lives = Lives.Same live;
   counted = begun ∙ (number ∙ (sym (counts n.past past) ∙ sym
-      (ap (λ b. calls_in n.past t + bit b) answered.quiet ∙ plus_none (calls_in n.past t))));
+      (ap (λ b. calls_in n.past t + bit b) (settled_quiet (tasked n t).frame answered.settled)
+      ∙ plus_none (calls_in n.past t))));
   begun = subst (λ b. b ≤ lines_until sc (phases_in m.past + 1) t) (sym begun) s.begun;
-  forming = unformed sc n.live (member_of n.live (tasked n t)) t (tasked n t).begun (tasked n t).frame answered.quiet;
+  forming = unformed sc n.live (member_of n.live (tasked n t)) t (tasked n t).begun (tasked n t).frame
+      answered.settled;
   open_frame = answered.open_frame;
 }
   where

@@ -1,44 +1,46 @@
 -- What an event does to its own task, where it is not the machine's values that change.
-use Rattle.std.proofs.Common.{◌≡◌, ℕ, zero, suc, ◌+◌, ◌-◌, ◌≤◌, Bool, List, [], ◌∷◌, ◌++◌, refl, true, false, arith, sym, ap, ◌∙◌, subst, length, length-append, get_or, Some, None, Option, Ok, Err, Result}
+use Rattle.std.proofs.Common.{◌≡◌, ℕ, zero, suc, ◌+◌, ◌≤◌, Bool, List, [], ◌∷◌, ◌++◌, refl, true, false, arith, sym, ap, ◌∙◌, subst, length, length-append, get_or, Some, None, Option, Ok, Err, Result}
 use Rattle.std.proofs.Math.ListN.{set}
-use Rattle.std.proofs.lemmas.List.{length-set}
-use Rattle.std.specs.Prelude.{is_some, if◌then◌else◌, ◌==◌, ℤ, not, ◌||◌}
+use Rattle.std.specs.List.{flat_map}
+use Rattle.std.specs.Prelude.{if◌then◌else◌, ◌==◌, ℤ, not}
 use Rattle.vch_base.specs.declared.key.Key.{Key}
 use Rattle.vch_base.specs.declared.key.Key.TheVariants as keys
-use Rattle.vch_base.specs.Keys.{key_of}
+use Rattle.vch_base.specs.Keys.{every_key, managed, key_of}
+use Rattle.vch_base.specs.Keyed.{of_key}
+use Rattle.vch_base.specs.Tasks.{at_task, set_task}
+use Rattle.vch_base.specs.declared.commands.TheConstants as commands
+use Rattle.vch_base.specs.declared.key.TheConstants.{ALL_KEYS}
+use Rattle.vch_base.proofs.CallerLemmas.{as_long}
 use Rattle.vch_recipe.specs.Recipes.{First, One}
 use Rattle.vch_recipe.specs.declared.recipe.Recipe.{Recipe}
 use Rattle.vch_model.specs.declared.call.Call.{Call}
 use Rattle.vch_model.specs.declared.call.Call.TheVariants as calls
+use Rattle.vch_model.specs.declared.entry.Entry.{Entry}
 use Rattle.vch_model.specs.declared.entry.Reply.{Reply}
 use Rattle.vch_model.specs.declared.lists.Scenario.{Scenario}
+use Rattle.vch_model.specs.Eval.{is_core_command, is_plain_command}
 use Rattle.vch_model.specs.Lines.{is_task}
-use Rattle.vch_machine.specs.State.{of_key, Handles, Place, Frame, Tasked, Machine, Message, idle, tasked, with_tasked, Named}
+use Rattle.vch_machine.specs.State.{Handles, Place, Frame, Tasked, Machine, Message, idle, tasked, with_tasked, Named}
 use Rattle.vch_machine.specs.Beginning.{enqueued}
-use Rattle.vch_machine.specs.Frames.{closed, with_frame, replied}
+use Rattle.vch_machine.specs.Frames.{with_frame, noted, replied}
 use Rattle.vch_machine.specs.Naming.{item, places, option_places, is_known, orphaned, doubled, with_name, handles_of}
 use Rattle.vch_machine.specs.Next.{current, nth_call}
-use Rattle.vch_machine.specs.Working.{Worked, changed, changed_at, changed_keys, copied, copies, removes, worked, worked_with, work_first}
-use Rattle.vch_legal.specs.Facts.{FrameFits, OptionFits, SendsToTasks}
+use Rattle.vch_machine.specs.Working.{Worked, changed, changed_at, changed_each, changed_keys, copied, copies, removes, worked, worked_with, work_first}
+use Rattle.vch_legal.specs.Facts.{SendsToTasks, most_lets}
 
 -- a property of a task, where a task of the list is replaced
-pub set_keeps : (Q : Tasked → Type 0) (xs : List Tasked) (i j : ℕ) (x : Tasked) → (i ≡ j → Q x) → Q (get_or xs j idle)
-    → Q (get_or (set xs i x) j idle)
-set_keeps Q [] i j x h k = k
-set_keeps Q (y ∷ xs) zero zero x h k = h refl
-set_keeps Q (y ∷ xs) zero (suc j) x h k = k
-set_keeps Q (y ∷ xs) (suc i) zero x h k = k
-set_keeps Q (y ∷ xs) (suc i) (suc j) x h k = set_keeps Q xs i j x (λ e. h (ap suc e)) k
-
-own_set : (xs : List Tasked) (i : ℕ) (x : Tasked) → OptionFits x.frame → OptionFits (get_or (set xs i x) i idle).frame
-own_set [] i x h = tt
-own_set (y ∷ xs) zero x h = h
-own_set (y ∷ xs) (suc i) x h = own_set xs i x h
-
--- the frame that was put there fits
-pub own_frame : (m : Machine) (t : ℕ) (g : Option Frame) → OptionFits g
-    → OptionFits (tasked (with_frame m t g) t).frame
-own_frame m t g h = own_set m.tasks (t - 1) (record (tasked m t) { frame = g }) h
+pub set_keeps : (Q : Tasked → Type 0) (xs : List Tasked) (t u : ℕ) (x : Tasked) → (t ≡ u → Q x) → Q (at_task xs u idle)
+    → Q (at_task (set_task xs t x) u idle)
+set_keeps Q xs zero u x h k = k
+set_keeps Q xs (suc i) zero x h k = k
+set_keeps Q xs (suc i) (suc j) x h k = from_place xs i j (λ e. h (ap suc e)) k
+  where
+    from_place : (xs : List Tasked) (i j : ℕ) → (i ≡ j → Q x) → Q (get_or xs j idle) → Q (get_or (set xs i x) j idle)
+    from_place [] i j h k = k
+    from_place (y ∷ xs) zero zero h k = h refl
+    from_place (y ∷ xs) zero (suc j) h k = k
+    from_place (y ∷ xs) (suc i) zero h k = k
+    from_place (y ∷ xs) (suc i) (suc j) h k = from_place xs i j (λ e. h (ap suc e)) k
 
 -- a step that leaves the values, the handles and the tally, and begins no call
 pub record Near (t : ℕ) (m n : Machine) : Type 0 where
@@ -78,15 +80,15 @@ near_then t m n o a b =
     le_trans : {a b c : ℕ} → a ≤ b → b ≤ c → a ≤ c
     le_trans h k = omega arith
 
-pub near_task : (t u : ℕ) (m : Machine) (x : Tasked) → (u - 1 ≡ t - 1 → x.begun ≡ (tasked m t).begun)
+pub near_task : (t u : ℕ) (m : Machine) (x : Tasked) → (u ≡ t → x.begun ≡ (tasked m t).begun)
     → Near t m (with_tasked m u x)
 near_task t u m x h = record {
   live = refl;
   pools = refl;
   tally = refl;
   older = same_length (length m.past);
-  tasks = length-set m.tasks (u - 1) x;
-  begun = set_keeps (λ y. y.begun ≡ (tasked m t).begun) m.tasks (u - 1) (t - 1) x h refl;
+  tasks = as_long m.tasks u x;
+  begun = set_keeps (λ y. y.begun ≡ (tasked m t).begun) m.tasks u t x h refl;
 }
 
 pub near_own : (t : ℕ) (m : Machine) (x : Tasked) → x.begun ≡ (tasked m t).begun → Near t m (with_tasked m t x)
@@ -95,8 +97,8 @@ near_own t m x h = near_task t t m x (λ _. h)
 pub near_framed : (t : ℕ) (m n : Machine) (g : Option Frame) → Near t m n → Near t m (with_frame n t g)
 near_framed t m n g a = near_then t m n (with_frame n t g) a (near_own t n (record (tasked n t) { frame = g }) refl)
 
-pub near_replied : (t : ℕ) (m n : Machine) (call : Call) (r : Reply) → Near t m n → Near t m (replied n t call r)
-near_replied t m n call r a = record {
+pub near_noted : (t : ℕ) (m n : Machine) (e : Entry) → Near t m n → Near t m (noted n e)
+near_noted t m n e a = record {
   live = a.live;
   pools = a.pools;
   tally = a.tally;
@@ -109,9 +111,12 @@ near_replied t m n call r a = record {
     more : (a b : ℕ) → a ≤ b → a ≤ suc b
     more a b h = omega arith
 
+pub near_replied : (t : ℕ) (m n : Machine) (call : Call) (r : Reply) → Near t m n → Near t m (replied n t call r)
+near_replied t m n call r a = near_noted t m n _ a
+
 pub near_queued : (t to : ℕ) (m : Machine) (q : Message) → Near t m (enqueued m to q)
 near_queued t to m q = near_task t to m (record (tasked m to) { queue = (tasked m to).queue ++ q ∷ [] })
-    (λ e. ap (λ i. (get_or m.tasks i idle).begun) e)
+    (λ e. ap (λ i. (at_task m.tasks i idle).begun) e)
 
 pub near_either : (t : ℕ) (m n o : Machine) (b : Bool) → Near t m n → Near t m o → Near t m (if b then n else o)
 near_either t m n o true x y = x
@@ -138,132 +143,137 @@ sent_near sc t m n f sends task e near = sent_begun sc t m n f sends task e near
 
 -- Few handles to let go.
 
-no_receipt : (o : Option Place) → o ≡ None → is_some o ≡ true → ⊥
-no_receipt None e h = let k : false ≡ true = h in cc
-no_receipt (Some p) e h = cc
-
--- a frame without a receipt
-pub plain_fits : (g : Frame) → g.receipt ≡ None → length g.lets ≤ 6 → FrameFits g
-plain_fits g r few = record {
-  claim = λ h. absurd (no_receipt g.receipt r h);
-  lets = λ h. absurd (no_receipt g.receipt r h);
-  forming = λ h. absurd (no_receipt g.receipt r h);
-  few = few;
-}
-
-closed_if : (b : Bool) (g : Frame) → FrameFits g → OptionFits (if b then Some g else None)
-closed_if true g h = h
-closed_if false g h = tt
-
-pub closed_fits : (g : Frame) → FrameFits g → OptionFits (closed g)
-closed_fits g h = closed_if _ g h
-
 item_few : (k : Key) (x : Option ℕ) → length (item k x) ≤ 1
 item_few k None = omega arith
 item_few k (Some h) = omega arith
 
-pub item_fits : (lets : List Place) (k : Key) (x : Option ℕ) → lets ≡ [] → length (lets ++ item k x) ≤ 6
+pub item_fits : (lets : List Place) (k : Key) (x : Option ℕ) → lets ≡ [] → length (lets ++ item k x) ≤ most_lets
 item_fits lets k x e = rw e (let h : length (item k x) ≤ 1 = item_few k x in omega arith)
 
-pub places_few : (v : Handles) → length (places v) ≤ 3
-places_few v =
-    rw (
-      length-append (item keys.Importance v.importance) (item keys.Bank v.bank ++ item keys.User v.user),
-      length-append (item keys.Bank v.bank) (item keys.User v.user),
-    )
-    (let a : length (item keys.Importance v.importance) ≤ 1 = item_few keys.Importance v.importance in
-    let b : length (item keys.Bank v.bank) ≤ 1 = item_few keys.Bank v.bank in
-    let c : length (item keys.User v.user) ≤ 1 = item_few keys.User v.user in omega arith)
+some_few : (v : Handles) (ks : List Key) → length (flat_map (λ k. item k (of_key k v)) ks) ≤ length ks
+some_few v [] = omega arith
+some_few v (k ∷ ks) =
+    rw (length-append (item k (of_key k v)) (flat_map (λ j. item j (of_key j v)) ks))
+    (let a : length (item k (of_key k v)) ≤ 1 = item_few k (of_key k v) in
+    let b : length (flat_map (λ j. item j (of_key j v)) ks) ≤ length ks = some_few v ks in omega arith)
+
+-- a voucher has at most a handle of each key
+pub places_few : (v : Handles) → length (places v) ≤ length every_key
+places_few v = some_few v every_key
 
 if_few : (b : Bool) (n : ℕ) (xs ys : List Place) → length xs ≤ n → length ys ≤ n → length (if b then xs else ys) ≤ n
 if_few true n xs ys x y = x
 if_few false n xs ys x y = y
 
-none_few : 0 ≤ 3
-none_few = omega arith
+none_few : (n : ℕ) → 0 ≤ n
+none_few n = omega arith
 
-pub option_few : (v : Option Handles) → length (option_places v) ≤ 3
-option_few None = none_few
+pub option_few : (v : Option Handles) → length (option_places v) ≤ length every_key
+option_few None = none_few (length every_key)
 option_few (Some v) = places_few v
 
-pub orphaned_few : (m : Machine) (v : Option Handles) → length (orphaned m v) ≤ 3
-orphaned_few m None = none_few
-orphaned_few m (Some v) = if_few (is_known m v) 3 [] (places v) none_few (places_few v)
+pub orphaned_few : (m : Machine) (v : Option Handles) → length (orphaned m v) ≤ length every_key
+orphaned_few m None = none_few (length every_key)
+orphaned_few m (Some v) = if_few (is_known m v) (length every_key) [] (places v) (none_few (length every_key))
+    (places_few v)
 
-pub doubled_few : (m : Machine) (v : Handles) → length (doubled m v) ≤ 3
-doubled_few m v = if_few (is_known m v) 3 (places v) [] (places_few v) none_few
+pub doubled_few : (m : Machine) (v : Handles) → length (doubled m v) ≤ length every_key
+doubled_few m v = if_few (is_known m v) (length every_key) (places v) [] (places_few v) (none_few (length every_key))
 
 -- what is let go by Work
 abbrev LeftFew : ℕ → Result Worked ℤ → Type 0
 LeftFew n (Ok w) = length w.left ≤ n
 LeftFew n (Err code) = Unit {0}
 
-changed_few : (k : Key) (x : Option (Option ℕ)) (w : Worked) (n : ℕ) → length w.left ≤ n
-    → length (changed k x w).left ≤ n + 1
-changed_few k None w n h = omega arith
-changed_few k (Some x) w n h =
+changed_few : (k : Key) (x : Option (Option ℕ)) (w : Worked) → length (changed k x w).left ≤ length w.left + 1
+changed_few k None w = omega arith
+changed_few k (Some x) w =
     rw (length-append w.left (item k (of_key k w.forming))) (let i : length
     (item k (of_key k w.forming)) ≤ 1 = item_few k (of_key k w.forming) in omega arith)
+
+each_few : (f : Key → Option (Option ℕ)) (ks : List Key) (w : Worked)
+    → length (changed_each f ks w).left ≤ length w.left + length ks
+each_few f [] w = omega arith
+each_few f (k ∷ ks) w =
+    let a : length (changed_each f ks (changed k (f k) w)).left ≤ length (changed k (f k) w).left + length ks =
+    each_few f ks (changed k (f k) w) in
+    let b : length (changed k (f k) w).left ≤ length w.left + 1 = changed_few k (f k) w in omega arith
+
+managed_few : (version : ℕ) → length (managed version) ≤ length every_key
+managed_few version = by_test (version == 2)
+  where
+    by_test : (b : Bool)
+        → length (keys.Importance ∷ keys.Bank ∷ keys.User ∷ (if b then keys.Test ∷ [] else [])) ≤ length
+        every_key
+    by_test true = omega arith
+    by_test false = omega arith
 
 left_if : (b : Bool) (n : ℕ) (x y : Result Worked ℤ) → LeftFew n x → LeftFew n y → LeftFew n (if b then x else y)
 left_if true n x y h k = h
 left_if false n x y h k = k
 
-at_few : (f : Key → Option (Option ℕ)) (k : Option Key) (w : Worked) → length w.left ≤ 0 → LeftFew 3 (changed_at f k w)
+at_few : (f : Key → Option (Option ℕ)) (k : Option Key) (w : Worked) → length w.left ≤ 0
+    → LeftFew (length every_key) (changed_at f k w)
 at_few f None w h = tt
-at_few f (Some k) w h = let i : length (changed k (f k) w).left ≤ 0 + 1 = changed_few k (f k) w 0 h in omega arith
+at_few f (Some k) w h = let i : length (changed k (f k) w).left ≤ length w.left + 1 = changed_few k (f k) w in
+    omega arith
 
-keys_few : (f : Key → Option (Option ℕ)) (key : ℕ) (w : Worked) → length w.left ≤ 0 → LeftFew 3 (changed_keys f key w)
-keys_few f key w h =
-    left_if (key == 4294967295) 3 _ _
-    (changed_few keys.User (f keys.User) _ 2 (changed_few keys.Bank (f keys.Bank) _ 1
-    (changed_few keys.Importance (f keys.Importance) w 0 h)))
-    (at_few f (key_of key) w h)
+keys_few : (version : ℕ) (f : Key → Option (Option ℕ)) (key : ℕ) (w : Worked) → length w.left ≤ 0
+    → LeftFew (length every_key) (changed_keys version f key w)
+keys_few version f key w h =
+    left_if (key == ALL_KEYS) (length every_key) _ _
+    (joined (length (changed_each f (managed version) w).left) (length w.left) (length (managed version))
+    (length every_key) (each_few f (managed version) w) h (managed_few version))
+    (at_few f (key_of version key) w h)
+  where
+    joined : (a b c d : ℕ) → a ≤ b + c → b ≤ 0 → c ≤ d → a ≤ d
+    joined a b c d x y z = omega arith
 
-copied_few : (previous : Option Handles) (key : ℕ) (w : Worked) → length w.left ≤ 0 → LeftFew 3 (copied previous key w)
-copied_few None key w h = omega arith
-copied_few (Some v) key w h = keys_few (copies (Some v) w.forming) key w h
+none_left : (w : Worked) → length w.left ≤ 0 → length w.left ≤ length every_key
+none_left w h = omega arith
 
-worked_few : (r : Recipe) (previous : Option Handles) (w : Worked) → length w.left ≤ 0
-    → LeftFew 3 (worked r previous w)
-worked_few r previous w h =
-    left_if ((r.command == 3) || ((r.command == 4) || (r.command == 5))) 3 _ _ tt
-    (left_if ((r.command == 0) || ((r.command == 1) || (r.command == 2))) 3 _ _
-    (left_if (not (length r.content == 0)) 3 _ _ tt
-    (left_if (r.command == 0) 3 _ _ (omega arith)
-    (left_if (r.command == 1) 3 _ _ (copied_few previous r.key w h)
-    (keys_few (removes previous w.forming) r.key w h))))
+copied_few : (version : ℕ) (previous : Option Handles) (key : ℕ) (w : Worked) → length w.left ≤ 0
+    → LeftFew (length every_key) (copied version previous key w)
+copied_few version None key w h = none_left w h
+copied_few version (Some v) key w h = keys_few version (copies (Some v) w.forming) key w h
+
+worked_few : (version : ℕ) (r : Recipe) (previous : Option Handles) (w : Worked) → length w.left ≤ 0
+    → LeftFew (length every_key) (worked version r previous w)
+worked_few version r previous w h =
+    left_if (is_core_command r.command) (length every_key) _ _ tt
+    (left_if (is_plain_command r.command) (length every_key) _ _
+    (left_if (not (length r.content == 0)) (length every_key) _ _ tt
+    (left_if (r.command == commands.NOOP) (length every_key) _ _ (none_left w h)
+    (left_if (r.command == commands.COPY) (length every_key) _ _ (copied_few version previous r.key w h)
+    (keys_few version (removes previous w.forming) r.key w h))))
     tt)
 
-with_few : (r : Recipe) (previous : Option Handles) (w : Worked) → length w.left ≤ 0
-    → LeftFew 3 (worked_with r previous w)
-with_few r None w h = tt
-with_few r (Some v) w h = worked_few r (Some v) w h
+with_few : (version : ℕ) (r : Recipe) (previous : Option Handles) (w : Worked) → length w.left ≤ 0
+    → LeftFew (length every_key) (worked_with version r previous w)
+with_few version r None w h = tt
+with_few version r (Some v) w h = worked_few version r (Some v) w h
 
-no_left : 0 ≤ 0
-no_left = omega arith
+pub first_few : (version : ℕ) (names : List Named) (first : First) (map : Handles)
+    → LeftFew (length every_key) (work_first version names first map)
+first_few version names (One r rest) map =
+    left_if (r.previous == 0) (length every_key) _ _
+    (worked_few version r None (record { forming = map; left = [] }) (none_few 0))
+    (with_few version r (handles_of names r.previous) (record { forming = map; left = [] }) (none_few 0))
+first_few version names First.End map = tt
+first_few version names (First.HeaderCut left) map = tt
+first_few version names (First.ContentCut wanted left) map = tt
 
-pub first_few : (names : List Named) (first : First) (map : Handles) → LeftFew 3 (work_first names first map)
-first_few names (One r rest) map =
-    left_if (r.previous == 0) 3 _ _ (worked_few r None (record { forming = map; left = [] }) no_left)
-    (with_few r (handles_of names r.previous) (record { forming = map; left = [] }) no_left)
-first_few names First.End map = tt
-first_few names (First.HeaderCut left) map = tt
-first_few names (First.ContentCut wanted left) map = tt
+pub one_few : (lets a : List Place) → lets ≡ [] → length a ≤ length every_key → length (lets ++ a) ≤ most_lets
+one_few lets a e h = rw e (omega arith)
 
-three_more : (lets left : List Place) → lets ≡ [] → length left ≤ 3 → length (lets ++ left) ≤ 6
-three_more lets left e h = rw e (omega arith)
+pub work_few : (version : ℕ) (names : List Named) (first : First) (map : Handles) (lets : List Place) (w : Worked)
+    → work_first version names first map ≡ Ok w → lets ≡ [] → length (lets ++ w.left) ≤ most_lets
+work_few version names first map lets w e empty = one_few lets w.left empty
+    (subst (LeftFew (length every_key)) e (first_few version names first map))
 
-pub work_few : (names : List Named) (first : First) (map : Handles) (lets : List Place) (w : Worked)
-    → work_first names first map ≡ Ok w → lets ≡ [] → length (lets ++ w.left) ≤ 6
-work_few names first map lets w e empty = three_more lets w.left empty
-    (subst (LeftFew 3) e (first_few names first map))
+pub refuse_few : (lets : List Place) (v : Option Handles) → lets ≡ [] → length (lets ++ option_places v) ≤ most_lets
+refuse_few lets v e = one_few lets (option_places v) e (option_few v)
 
-pub refuse_few : (lets : List Place) (v : Option Handles) → lets ≡ [] → length (lets ++ option_places v) ≤ 6
-refuse_few lets v e = three_more lets (option_places v) e (option_few v)
-
-pub one_few : (lets a : List Place) → lets ≡ [] → length a ≤ 3 → length (lets ++ a) ≤ 6
-one_few lets a e h = three_more lets a e h
-
-pub two_few : (lets a b : List Place) → lets ≡ [] → length a ≤ 3 → length b ≤ 3 → length (lets ++ (a ++ b)) ≤ 6
+pub two_few : (lets a b : List Place) → lets ≡ [] → length a ≤ length every_key → length b ≤ length every_key
+    → length (lets ++ (a ++ b)) ≤ most_lets
 two_few lets a b e h k = rw (e, length-append a b) (omega arith)

@@ -6,7 +6,7 @@ use Rattle.vch_model.specs.declared.call.Line.{Line}
 use Rattle.vch_model.specs.declared.lists.Scenario.{Scenario}
 use Rattle.vch_model.specs.Lines.{lines_from, lines_until}
 use Rattle.vch_legal.specs.Facts.{times}
-use Rattle.vch_legal.proofs.EventSpots.{cases_bool}
+use Rattle.vch_legal.proofs.Choices.{cases_bool}
 
 -- the lines of a task among some lines
 abbrev pub of_task : ℕ → List Line → ℕ

@@ -5,7 +5,7 @@ use Rattle.std.specs.List.{filter}
 use Rattle.vch_model.specs.declared.call.Line.{Line}
 use Rattle.vch_model.specs.declared.lists.Scenario.{Scenario}
 use Rattle.vch_model.specs.Lines.{lines_from, lines_of, line_at, lines_until}
-use Rattle.vch_legal.proofs.EventSpots.{cases_bool}
+use Rattle.vch_legal.proofs.Choices.{cases_bool}
 
 -- the phases rise from a number on
 abbrev Rising : ℕ → List (ℕ × Line) → Type 0

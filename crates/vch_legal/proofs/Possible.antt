@@ -2,7 +2,9 @@
 use Rattle.std.proofs.Common.{◌≡◌, ℕ, zero, suc, ◌+◌, ◌-◌, ◌<◌, ◌≤◌, Bool, List, [], ◌∷◌, refl, true, false, ◌&&◌, ◌||◌, arith, sym, ap, ◌∙◌, subst, length, drop, Some, None, Option}
 use Rattle.std.specs.Prelude.{if◌then◌else◌, ◌==◌, nat_lt, nat_le, is_some, slice_get}
 use Rattle.std.specs.List.{filter}
+use Rattle.vch_base.specs.declared.commands.TheConstants as commands
 use Rattle.vch_base.specs.declared.key.Key.{Key}
+use Rattle.vch_base.specs.declared.key.TheConstants.{ALL_KEYS}
 use Rattle.vch_base.specs.declared.kind.Kind.{Kind}
 use Rattle.vch_base.specs.declared.kind.Kind.TheVariants as kinds
 use Rattle.vch_base.specs.declared.value.Value.{Value}
@@ -14,38 +16,21 @@ use Rattle.vch_model.specs.declared.call.Line.{Line}
 use Rattle.vch_model.specs.declared.lists.Scenario.{Scenario}
 use Rattle.vch_model.specs.Voucher.{Voucher}
 use Rattle.vch_model.specs.Store.{Member}
-use Rattle.vch_model.specs.Legal.{asks}
+use Rattle.vch_model.specs.Legal.{is_managers}
 use Rattle.vch_model.specs.Lines.{is_task, phases_in, lines_of, lines_until}
 use Rattle.vch_machine.specs.State.{Handles, Place, Living, Named, Claim, Frame, Machine, tasked, member_of, is_empty}
 use Rattle.vch_machine.specs.Beginning.{begin_line, is_full}
-use Rattle.vch_machine.specs.Events.{event, event_of, frame_event, on_formed, on_place, on_lets, on_the_claim}
+use Rattle.vch_machine.specs.Events.{event, event_of, frame_event, work_event, on_formed, on_place, on_lets, on_the_claim}
 use Rattle.vch_machine.specs.Leaving.{do_let_go, do_ask, do_recheck}
-use Rattle.vch_machine.specs.Making.{Asked, asked_by, asked_first, asked_record, asked_transfer, make_asked}
-use Rattle.vch_machine.specs.Next.{next_kind, task_next, nth_call, call_in, known_name, first_next, call_next, formed_next, lets_next, unclaimed_next, frame_next}
+use Rattle.vch_machine.specs.Making.{keys_left, head_key, Asked, asked_by, asked_first, asked_record, asked_transfer, make_asked}
+use Rattle.vch_machine.specs.Next.{next_kind, task_next, nth_call, call_in, known_name, first_next, call_next, unanswered_next, lets_next, unclaimed_next, frame_next}
 use Rattle.vch_machine.specs.Placing.{do_place}
 use Rattle.vch_legal.specs.Facts.{Fits, OptionFits}
-use Rattle.vch_legal.specs.Tie.{Forms, FrameForms, Stands}
-use Rattle.vch_legal.proofs.EventSpots.{cases_bool}
+use Rattle.vch_legal.specs.Tie.{Forms, Stands}
+use Rattle.vch_legal.proofs.Choices.{cases_bool}
 use Rattle.vch_legal.proofs.OwnSteps.{Before}
-use Rattle.vch_legal.proofs.LeaveSteps.{forming_of}
-use Rattle.vch_legal.proofs.Nexts.{is_call_kind, forms_at, some_kind}
-
--- a call is under way while a voucher is formed, and it is a create, a send or a recv
-abbrev CallThere : Scenario → ℕ → Machine → Type 0
-CallThere sc t m = (call : Call) × (nth_call sc t (tasked m t).begun ≡ Some call)
-
-call_there : (sc : Scenario) (t : ℕ) (m : Machine) (f : Frame) (v : Handles) → Before sc t m → (tasked m t).frame
-    ≡ Some f → f.forming ≡ Some v → CallThere sc t m
-call_there sc t m f v s e forming =
-    by_call (nth_call sc t (tasked m t).begun) refl
-    (subst (λ (w : Option Handles). FrameForms sc m.live (member_of m.live (tasked m t)) t f.at_byte f.keys f.receipt
-    w (nth_call sc t (tasked m t).begun)) forming (forming_of sc t m f s e))
-  where
-    by_call : (o : Option Call) → nth_call sc t (tasked m t).begun ≡ o
-        → FrameForms sc m.live (member_of m.live (tasked m t)) t f.at_byte f.keys f.receipt (Some v) o
-        → CallThere sc t m
-    by_call None g h = absurd h
-    by_call (Some call) g h = (call, g)
+use Rattle.vch_legal.proofs.CallKinds.{not_other}
+use Rattle.vch_legal.proofs.Nexts.{forms_at, exits_at, CallThere, call_there, still_open, some_kind}
 
 formed_some : (g : Handles → Call → Option Machine) (v : Handles) (call : Call) (w : Option Handles) (c : Option Call)
     → w ≡ Some v → c ≡ Some call → is_some (g v call) ≡ true → is_some (on_formed g w c) ≡ true
@@ -57,14 +42,19 @@ if_some true x y h k = h
 if_some false x y h k = k
 
 -- a Make asks for something
-record_asks : (live : List Living) (names : List Named) (t : ℕ) (ks : List Key) (v : Handles) (first : First)
-    → first_next names first ≡ kinds.Make → is_some (asked_first live names t ks v first) ≡ true
-record_asks live names t ks v (One r rest) e =
-    cases_bool (r.key == 4294967295) (is_some (asked_first live names t ks v (One r rest)) ≡ true)
-    (λ all. rw all refl)
-    (λ one. rw one (of_key (key_of r.key) (managed ((r.previous == 0) || is_some (known_name names r.previous))
-    (nat_lt 5 r.command) (is_some (key_of r.key)) (r.command == 10) (r.key == 4294967295) (length r.content == 0) one
-    (asking _ e))))
+some_left : (version : ℕ) (ks : List Key) → is_some (head_key (keys_left version ks)) ≡ true
+some_left version [] = refl
+some_left version (k ∷ ks) = refl
+
+record_asks : (version : ℕ) (live : List Living) (names : List Named) (t : ℕ) (ks : List Key) (v : Handles)
+    (first : First)
+    → first_next version names first ≡ kinds.Make → is_some (asked_first version live names t ks v first) ≡ true
+record_asks version live names t ks v (One r rest) e =
+    cases_bool (r.key == ALL_KEYS) (is_some (asked_first version live names t ks v (One r rest)) ≡ true)
+    (λ all. rw all (of_key (head_key (keys_left version ks)) (some_left version ks)))
+    (λ one. rw one (of_key (key_of version r.key) (managed ((r.previous == 0) || is_some (known_name names r.previous))
+    (is_managers r.command) (is_some (key_of version r.key)) (r.command == commands.REDEEM) (r.key == ALL_KEYS)
+    (length r.content == 0) one (asking _ e))))
   where
     asking : (b : Bool) → (if b then kinds.Make else kinds.Work) ≡ kinds.Make → b ≡ true
     asking true e = refl
@@ -76,9 +66,9 @@ record_asks live names t ks v (One r rest) e =
     of_key : (k : Option Key) → is_some k ≡ true → is_some (asked_record live names t v r k) ≡ true
     of_key None h = cc
     of_key (Some k) h = refl
-record_asks live names t ks v End e = cc
-record_asks live names t ks v (HeaderCut left) e = cc
-record_asks live names t ks v (ContentCut wanted left) e = cc
+record_asks version live names t ks v End e = cc
+record_asks version live names t ks v (HeaderCut left) e = cc
+record_asks version live names t ks v (ContentCut wanted left) e = cc
 
 keys_ask : (live : List Living) (g : Value → Value) (ks : List Key) (v : Handles)
     → (if is_empty ks then Some kinds.Place else Some kinds.Make) ≡ Some kinds.Make
@@ -88,9 +78,10 @@ keys_ask live g (k ∷ ks) v e = refl
 
 asked_some : (sc : Scenario) (t : ℕ) (m : Machine) (f : Frame) (v : Handles) (call : Call) (x : Member) (place : ℕ)
     (ks : List Key) (w : Voucher) → Forms sc x t call place ks w
-    → call_next (tasked m t).names f.at_byte f.keys (Some call) ≡ Some kinds.Make → is_some (asked_by sc m t f v call)
-    ≡ true
-asked_some sc t m f v (calls.Create bytes) x place ks w h e = record_asks m.live (tasked m t).names t f.keys v
+    → call_next sc.version (tasked m t).names f.at_byte f.keys (Some call) ≡ Some kinds.Make
+    → is_some (asked_by sc m t f v call) ≡ true
+asked_some sc t m f v (calls.Create bytes) x place ks w h e =
+    record_asks sc.version m.live (tasked m t).names t f.keys v
     (first_of (drop f.at_byte bytes)) (some_kind _ kinds.Make e)
 asked_some sc t m f v (calls.Send to moving name id) x place ks w h e = keys_ask m.live _ f.keys v e
 asked_some sc t m f v calls.Recv x place ks w h e = keys_ask m.live _ f.keys v e
@@ -102,17 +93,18 @@ asked_some sc t m f v (calls.Charge name n) x place ks w h e = absurd h
 asked_some sc t m f v calls.Ledger x place ks w h e = absurd h
 asked_some sc t m f v calls.Assertions x place ks w h e = absurd h
 asked_some sc t m f v calls.Live x place ks w h e = absurd h
+asked_some sc t m f v calls.Exit x place ks w h e = absurd h
 
-made_some : (m : Machine) (t : ℕ) (f : Frame) (v : Handles) (call : Call) (a : Option Asked) → is_some a ≡ true
-    → is_some (make_asked m t f v call a) ≡ true
-made_some m t f v call None e = cc
-made_some m t f v call (Some a) e = refl
+made_some : (version : ℕ) (m : Machine) (t : ℕ) (f : Frame) (v : Handles) (call : Call) (a : Option Asked)
+    → is_some a ≡ true → is_some (make_asked version m t f v call a) ≡ true
+made_some version m t f v call None e = cc
+made_some version m t f v call (Some a) e = refl
 
 placed_some : (sc : Scenario) (want : Bool) (t : ℕ) (m : Machine) (f : Frame) (v : Handles) (call : Call) (x : Member)
-    (place : ℕ) (ks : List Key) (w : Voucher) → Forms sc x t call place ks w → is_some (do_place want m t f v call)
-    ≡ true
+    (place : ℕ) (ks : List Key) (w : Voucher) → Forms sc x t call place ks w
+    → is_some (do_place sc want m t f v call) ≡ true
 placed_some sc want t m f v (calls.Create bytes) x place ks w h = if_some want _ _ refl refl
-placed_some sc want t m f v (calls.Send to moving name id) x place ks w h = if_some (is_full m to) _ _ refl
+placed_some sc want t m f v (calls.Send to moving name id) x place ks w h = if_some (is_full sc m to) _ _ refl
     (if_some want _ _ refl refl)
 placed_some sc want t m f v calls.Recv x place ks w h = if_some want _ _ refl refl
 placed_some sc want t m f v (calls.GiveUp name) x place ks w h = absurd h
@@ -123,54 +115,44 @@ placed_some sc want t m f v (calls.Charge name n) x place ks w h = absurd h
 placed_some sc want t m f v calls.Ledger x place ks w h = absurd h
 placed_some sc want t m f v calls.Assertions x place ks w h = absurd h
 placed_some sc want t m f v calls.Live x place ks w h = absurd h
+placed_some sc want t m f v calls.Exit x place ks w h = absurd h
 
--- no other event is the call's own
-keys_kind : (b : Bool) (kind : Kind) → (if b then Some kinds.Place else Some kinds.Make) ≡ Some kind
-    → is_call_kind kind ≡ true
-keys_kind true kind e = subst (λ (k : Kind). is_call_kind k ≡ true) (some_kind kinds.Place kind e) refl
-keys_kind false kind e = subst (λ (k : Kind). is_call_kind k ≡ true) (some_kind kinds.Make kind e) refl
-
-first_kind : (names : List Named) (first : First) → is_call_kind (first_next names first) ≡ true
-first_kind names (One r rest) = by_test (asks (known_name names) r)
-  where
-    by_test : (b : Bool) → is_call_kind (if b then kinds.Make else kinds.Work) ≡ true
-    by_test true = refl
-    by_test false = refl
-first_kind names End = refl
-first_kind names (HeaderCut left) = refl
-first_kind names (ContentCut wanted left) = refl
-
-own_kind : (names : List Named) (place : ℕ) (ks : List Key) (call : Call) (kind : Kind)
-    → call_next names place ks (Some call) ≡ Some kind → is_call_kind kind ≡ true
-own_kind names place ks (calls.Create bytes) kind e = subst (λ (k : Kind). is_call_kind k ≡ true) (some_kind _ kind e)
-    (first_kind names (first_of (drop place bytes)))
-own_kind names place ks (calls.GiveUp name) kind e = keys_kind (is_empty ks) kind e
-own_kind names place ks (calls.Extract name key) kind e = keys_kind (is_empty ks) kind e
-own_kind names place ks (calls.Recipes name) kind e = keys_kind (is_empty ks) kind e
-own_kind names place ks (calls.Send to moving name id) kind e = keys_kind (is_empty ks) kind e
-own_kind names place ks calls.Recv kind e = keys_kind (is_empty ks) kind e
-own_kind names place ks (calls.Extern name adding n) kind e = keys_kind (is_empty ks) kind e
-own_kind names place ks (calls.Charge name n) kind e = keys_kind (is_empty ks) kind e
-own_kind names place ks calls.Ledger kind e = keys_kind (is_empty ks) kind e
-own_kind names place ks calls.Assertions kind e = keys_kind (is_empty ks) kind e
-own_kind names place ks calls.Live kind e = keys_kind (is_empty ks) kind e
-
-not_other : (names : List Named) (place : ℕ) (ks : List Key) (call : Call) (kind : Kind)
-    → call_next names place ks (Some call) ≡ Some kind → is_call_kind kind ≡ false → ⊥
-not_other names place ks call kind e h = let k : is_call_kind kind
-    ≡ true = own_kind names place ks call kind e in let n : true ≡ false = sym k ∙ h in cc
+-- Work of a call that forms a voucher, or of an exit
+work_some : (version : ℕ) (m : Machine) (t : ℕ) (f : Frame) (v : Handles) (call : Option Call) → f.forming ≡ Some v
+    → is_some call ≡ true → is_some (work_event version m t f call) ≡ true
+work_some version m t f v None forming e = cc
+work_some version m t f v (Some calls.Exit) forming e = refl
+work_some version m t f v (Some (calls.Create bytes)) forming e =
+    formed_some _ v (calls.Create bytes) f.forming _ forming refl refl
+work_some version m t f v (Some (calls.GiveUp name)) forming e =
+    formed_some _ v (calls.GiveUp name) f.forming _ forming refl refl
+work_some version m t f v (Some (calls.Extract name key)) forming e =
+    formed_some _ v (calls.Extract name key) f.forming _ forming refl refl
+work_some version m t f v (Some (calls.Recipes name)) forming e =
+    formed_some _ v (calls.Recipes name) f.forming _ forming refl refl
+work_some version m t f v (Some (calls.Send to moving name id)) forming e =
+    formed_some _ v (calls.Send to moving name id) f.forming _ forming refl refl
+work_some version m t f v (Some calls.Recv) forming e = formed_some _ v calls.Recv f.forming _ forming refl refl
+work_some version m t f v (Some (calls.Extern name adding n)) forming e =
+    formed_some _ v (calls.Extern name adding n) f.forming _ forming refl refl
+work_some version m t f v (Some (calls.Charge name n)) forming e =
+    formed_some _ v (calls.Charge name n) f.forming _ forming refl refl
+work_some version m t f v (Some calls.Ledger) forming e = formed_some _ v calls.Ledger f.forming _ forming refl refl
+work_some version m t f v (Some calls.Assertions) forming e =
+    formed_some _ v calls.Assertions f.forming _ forming refl refl
+work_some version m t f v (Some calls.Live) forming e = formed_some _ v calls.Live f.forming _ forming refl refl
 
 -- the call's own events
 called_some : (sc : Scenario) (want : Bool) (t : ℕ) (m : Machine) (f : Frame) (v : Handles) (call : Call)
     (kind : Kind) → Before sc t m → (tasked m t).frame ≡ Some f → f.forming ≡ Some v
     → nth_call sc t (tasked m t).begun ≡ Some call
-    → call_next (tasked m t).names f.at_byte f.keys (Some call) ≡ Some kind → is_some (frame_event sc want m t f kind)
-    ≡ true
-called_some sc want t m f v call kinds.Work s e forming there next = formed_some _ v call f.forming _ forming there
-    refl
+    → call_next sc.version (tasked m t).names f.at_byte f.keys (Some call) ≡ Some kind
+    → is_some (frame_event sc want m t f kind) ≡ true
+called_some sc want t m f v call kinds.Work s e forming there next =
+    work_some sc.version m t f v (nth_call sc t (tasked m t).begun) forming (ap is_some there)
 called_some sc want t m f v call kinds.Make s e forming there next =
     formed_some _ v call f.forming _ forming there
-    (if_some want _ _ refl (made_some m t f v call (asked_by sc m t f v call)
+    (if_some want _ _ refl (made_some sc.version m t f v call (asked_by sc m t f v call)
     (asked_some sc t m f v call (member_of m.live (tasked m t)) _ _ _
     (forms_at sc t m f v f.receipt call s e forming refl there) next)))
 called_some sc want t m f v call kinds.Place s e forming there next =
@@ -178,17 +160,17 @@ called_some sc want t m f v call kinds.Place s e forming there next =
     (placed_some sc want t m f v call (member_of m.live (tasked m t)) _ _ _
     (forms_at sc t m f v f.receipt call s e forming refl there))
 called_some sc want t m f v call kinds.Begin s e forming there next = absurd
-    (not_other (tasked m t).names f.at_byte f.keys call kinds.Begin next refl)
+    (not_other sc.version (tasked m t).names f.at_byte f.keys call kinds.Begin next refl)
 called_some sc want t m f v call kinds.Refer s e forming there next = absurd
-    (not_other (tasked m t).names f.at_byte f.keys call kinds.Refer next refl)
+    (not_other sc.version (tasked m t).names f.at_byte f.keys call kinds.Refer next refl)
 called_some sc want t m f v call kinds.LetGo s e forming there next = absurd
-    (not_other (tasked m t).names f.at_byte f.keys call kinds.LetGo next refl)
+    (not_other sc.version (tasked m t).names f.at_byte f.keys call kinds.LetGo next refl)
 called_some sc want t m f v call kinds.Ask s e forming there next = absurd
-    (not_other (tasked m t).names f.at_byte f.keys call kinds.Ask next refl)
+    (not_other sc.version (tasked m t).names f.at_byte f.keys call kinds.Ask next refl)
 called_some sc want t m f v call kinds.Recheck s e forming there next = absurd
-    (not_other (tasked m t).names f.at_byte f.keys call kinds.Recheck next refl)
+    (not_other sc.version (tasked m t).names f.at_byte f.keys call kinds.Recheck next refl)
 called_some sc want t m f v call kinds.Phase s e forming there next = absurd
-    (not_other (tasked m t).names f.at_byte f.keys call kinds.Phase next refl)
+    (not_other sc.version (tasked m t).names f.at_byte f.keys call kinds.Phase next refl)
 
 place_some : (g : Place → Machine) (o : Option Place) → is_some o ≡ true → is_some (on_place g o) ≡ true
 place_some g None e = cc
@@ -196,8 +178,8 @@ place_some g (Some p) e = refl
 
 -- an event of a frame
 frame_some : (sc : Scenario) (want : Bool) (t : ℕ) (m : Machine) (f : Frame) (kind : Kind) → Fits sc m → Before sc t m
-    → (tasked m t).frame ≡ Some f → frame_next (tasked m t).names f (nth_call sc t (tasked m t).begun) f.receipt
-    ≡ Some kind
+    → (tasked m t).frame ≡ Some f
+    → frame_next sc.version (tasked m t).names f (nth_call sc t (tasked m t).begun) f.receipt ≡ Some kind
     → is_some (frame_event sc want m t f kind) ≡ true
 frame_some sc want t m f kind fits s e next = by_receipt f.receipt refl next
   where
@@ -205,20 +187,34 @@ frame_some sc want t m f kind fits s e next = by_receipt f.receipt refl next
         → is_some (frame_event sc want m t f kind) ≡ true
     to_kind k g h = subst (λ (x : Kind). is_some (frame_event sc want m t f x) ≡ true) (some_kind k kind g) h
 
-    by_formed : (v : Option Handles) → f.forming ≡ v → formed_next (tasked m t).names f
-        (nth_call sc t (tasked m t).begun) v ≡ Some kind → is_some (frame_event sc want m t f kind) ≡ true
-    by_formed None g h = cc
-    by_formed (Some v) g h = of_call (call_there sc t m f v s e g)
+    exit_some : nth_call sc t (tasked m t).begun ≡ Some calls.Exit
+        → call_next sc.version (tasked m t).names f.at_byte f.keys (nth_call sc t (tasked m t).begun) ≡ Some kind
+        → is_some (frame_event sc want m t f kind) ≡ true
+    exit_some there h = to_kind kinds.Work
+        (sym (ap (call_next sc.version (tasked m t).names f.at_byte f.keys) there) ∙ h)
+        (subst (λ (o : Option Call). is_some (work_event sc.version m t f o) ≡ true) (sym there) refl)
+
+    by_formed : (v : Option Handles) → f.forming ≡ v → f.answered ≡ false
+        → call_next sc.version (tasked m t).names f.at_byte f.keys (nth_call sc t (tasked m t).begun) ≡ Some kind
+        → is_some (frame_event sc want m t f kind) ≡ true
+    by_formed None g u h = exit_some (exits_at sc t m f s e u g) h
+    by_formed (Some v) g u h = of_call (call_there sc t m f s e u)
       where
         of_call : CallThere sc t m → is_some (frame_event sc want m t f kind) ≡ true
         of_call (call, there) = called_some sc want t m f v call kind s e g there
-            (ap (call_next (tasked m t).names f.at_byte f.keys) (sym there) ∙ h)
+            (ap (call_next sc.version (tasked m t).names f.at_byte f.keys) (sym there) ∙ h)
 
-    by_lets : (lets : List Place) → f.lets ≡ lets → lets_next (tasked m t).names f (nth_call sc t (tasked m t).begun)
+    by_answer : (b : Bool) → f.answered ≡ b → unanswered_next sc.version (tasked m t).names f
+        (nth_call sc t (tasked m t).begun) b ≡ Some kind → is_some (frame_event sc want m t f kind) ≡ true
+    by_answer true g h = cc
+    by_answer false g h = by_formed f.forming refl g h
+
+    by_lets : (lets : List Place) → f.lets ≡ lets
+        → lets_next sc.version (tasked m t).names f (nth_call sc t (tasked m t).begun)
         lets ≡ Some kind → is_some (frame_event sc want m t f kind) ≡ true
     by_lets (p ∷ rest) g h = to_kind kinds.LetGo h
         (subst (λ (xs : List Place). is_some (on_lets (λ p rest. do_let_go m t f p rest) xs) ≡ true) (sym g) refl)
-    by_lets [] g h = by_formed f.forming refl h
+    by_lets [] g h = by_answer f.answered refl h
 
     of_answer : (c : Claim) (b : Bool) → f.claim ≡ Some c → Some (if b then kinds.Recheck else kinds.Ask) ≡ Some kind
         → is_some (frame_event sc want m t f kind) ≡ true
@@ -227,7 +223,7 @@ frame_some sc want t m f kind fits s e next = by_receipt f.receipt refl next
     of_answer c false g h = to_kind kinds.Ask h (subst
         (λ (o : Option Claim). is_some (on_the_claim (λ c. do_ask m t f c) o) ≡ true) (sym g) refl)
 
-    by_claim : (c : Option Claim) → f.claim ≡ c → unclaimed_next (tasked m t).names f
+    by_claim : (c : Option Claim) → f.claim ≡ c → unclaimed_next sc.version (tasked m t).names f
         (nth_call sc t (tasked m t).begun) c ≡ Some kind → is_some (frame_event sc want m t f kind) ≡ true
     by_claim (Some c) g h = of_answer c (is_some c.answer) g h
     by_claim None g h = by_lets f.lets refl h
@@ -235,12 +231,13 @@ frame_some sc want t m f kind fits s e next = by_receipt f.receipt refl next
     referred : (v : Option Handles) → f.forming ≡ v → is_some v ≡ true → is_some f.receipt ≡ true
         → is_some (frame_event sc want m t f kinds.Refer) ≡ true
     referred None g h r = cc
-    referred (Some v) g h r = of_call (call_there sc t m f v s e g)
+    referred (Some v) g h r =
+        of_call (call_there sc t m f s e (still_open f v (subst OptionFits e (fits.frames t)) g))
       where
         of_call : CallThere sc t m → is_some (frame_event sc want m t f kinds.Refer) ≡ true
         of_call (call, there) = formed_some _ v call f.forming _ g there (place_some _ f.receipt r)
 
-    by_receipt : (r : Option Place) → f.receipt ≡ r → frame_next (tasked m t).names f
+    by_receipt : (r : Option Place) → f.receipt ≡ r → frame_next sc.version (tasked m t).names f
         (nth_call sc t (tasked m t).begun) r ≡ Some kind → is_some (frame_event sc want m t f kind) ≡ true
     by_receipt (Some q) g h = to_kind kinds.Refer h
         (referred f.forming refl ((subst OptionFits e (fits.frames t)).forming (ap is_some g)) (ap is_some g))

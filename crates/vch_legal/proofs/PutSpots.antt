@@ -1,9 +1,13 @@
 -- The end of a create, a send or a recv changes no spot.
-use Rattle.std.proofs.Common.{◌≡◌, ℕ, ◌-◌, ◌<◌, Bool, List, [], ◌∷◌, ◌++◌, refl, true, false, ◌&&◌, ◌||◌, arith, sym, ap, ◌∙◌, length, Some, None, Option}
-use Rattle.std.proofs.lemmas.List.{get_or-set_same, length-set}
+use Rattle.std.proofs.Common.{◌≡◌, ℕ, Bool, List, [], ◌∷◌, ◌++◌, refl, true, false, ◌||◌, arith, sym, ap, ◌∙◌, Some, None, Option}
 use Rattle.std.specs.Prelude.{is_some, if◌then◌else◌, ◌==◌}
-use Rattle.std.specs.List.{list_any}
+use Rattle.std.specs.List.{list_any, list_all}
 use Rattle.std.proofs.lemmas.List.Folds.{list_any-append}
+use Rattle.vch_base.specs.declared.key.Key.{Key}
+use Rattle.vch_base.specs.declared.key.Key.TheVariants as keys
+use Rattle.vch_base.specs.Keys.{every_key}
+use Rattle.vch_base.specs.Keyed.{of_key}
+use Rattle.vch_base.proofs.CallerLemmas.{equal_where_equal, own_item, as_long}
 use Rattle.vch_model.specs.declared.call.Call.{Call}
 use Rattle.vch_machine.specs.State.{Handles, Place, same_place, Named, Message, Frame, Tasked, Machine, idle, tasked, with_tasked, has_place, option_has, frame_holds, frame_expects, frame_claims, task_holds, living_at}
 use Rattle.vch_machine.specs.Frames.{with_frame}
@@ -11,11 +15,11 @@ use Rattle.vch_machine.specs.Leaving.{is_fixed}
 use Rattle.vch_machine.specs.Naming.{same_handle, same_handles, name_of, one_more, with_name, is_known, places, doubled}
 use Rattle.vch_machine.specs.Placing.{ended, place_create}
 use Rattle.vch_legal.specs.Facts.{spot}
+use Rattle.vch_legal.proofs.Choices.{and_left, and_right, cases_bool}
 use Rattle.vch_legal.proofs.SpotSteps.{one}
-use Rattle.vch_legal.proofs.TaskLists.{other_any_set, before_set, behind_set}
+use Rattle.vch_legal.proofs.TaskLists.{IsAmong, other_any_set, before_set, behind_set}
 use Rattle.vch_legal.proofs.Places.{same_number, closed_holds, closed_expects, closed_claims}
 use Rattle.vch_legal.proofs.FrameSpots.{one_eq, others_hold, others_expect, claims_before, claims_behind, spot_set, spot_of, task_in_range}
-use Rattle.vch_legal.proofs.EventSpots.{cases_bool}
 use Rattle.vch_legal.proofs.WorkSpots.{lets_hold, places_hold}
 
 -- what names and queue of a task hold
@@ -24,22 +28,22 @@ known_to x p = list_any (λ (n : Named). has_place n.voucher p) x.names || list_
     (λ (q : Message). option_has q.voucher p) x.queue
 
 -- a spot where a task and its frame are replaced
-pub spot_put : (m : Machine) (t : ℕ) (x : Tasked) (g : Option Frame) (p : Place) → t - 1 < length m.tasks
+pub spot_put : (m : Machine) (t : ℕ) (x : Tasked) (g : Option Frame) (p : Place) → IsAmong t m.tasks
     → spot (with_frame (with_tasked m t x) t g) p
     ≡ one (is_some (living_at m.live p)) (is_fixed m p) (frame_holds g p || (known_to x p || others_hold m t p))
     (frame_expects g p || others_expect m t p)
     (claims_before m t p ++ (frame_claims g p ++ claims_behind m t p))
 spot_put m t x g p l =
-    spot_set (with_tasked m t x) t g p (rw (length-set m.tasks (t - 1) x) l)
+    spot_set (with_tasked m t x) t g p ((l.0, rw (as_long m.tasks t x) l.1))
     ∙ one_eq (is_some (living_at m.live p)) (is_fixed m p) _ _ _ _ _ _
     (ap (λ y. frame_holds g p || (known_to y p || others_hold (with_tasked m t x) t p))
-    (get_or-set_same m.tasks (t - 1) x idle l)
-    ∙ ap (λ b. frame_holds g p || (known_to x p || b)) (other_any_set (task_holds p) m.tasks (t - 1) x))
-    (ap (λ b. frame_expects g p || b) (other_any_set (λ (y : Tasked). frame_expects y.frame p) m.tasks (t - 1) x))
+    (own_item m.tasks t x idle l.0 l.1)
+    ∙ ap (λ b. frame_holds g p || (known_to x p || b)) (other_any_set (task_holds p) m.tasks t x))
+    (ap (λ b. frame_expects g p || b) (other_any_set (λ (y : Tasked). frame_expects y.frame p) m.tasks t x))
     (ap (λ b. b ++ (frame_claims g p ++ claims_behind (with_tasked m t x) t p))
-    (before_set (λ (y : Tasked). frame_claims y.frame p) m.tasks (t - 1) x)
+    (before_set (λ (y : Tasked). frame_claims y.frame p) m.tasks t x)
     ∙ ap (λ b. claims_before m t p ++ (frame_claims g p ++ b))
-    (behind_set (λ (y : Tasked). frame_claims y.frame p) m.tasks (t - 1) x))
+    (behind_set (λ (y : Tasked). frame_claims y.frame p) m.tasks t x))
 
 handle_eq : (a b : Option ℕ) → same_handle a b ≡ true → a ≡ b
 handle_eq None None e = refl
@@ -47,24 +51,18 @@ handle_eq (Some a) (Some b) e = ap Some (same_number a b e)
 handle_eq None (Some b) e = cc
 handle_eq (Some a) None e = cc
 
-both_left : (a b : Bool) → (a && b) ≡ true → a ≡ true
-both_left a b e = grind arith
-
-both_right : (a b : Bool) → (a && b) ≡ true → b ≡ true
-both_right a b e = grind arith
-
-handles_parts : (a b : Handles) → a.importance ≡ b.importance → a.bank ≡ b.bank → a.user ≡ b.user → a ≡ b
-handles_parts a b e f g = ap (λ x. record a { importance = x }) e
-    ∙ (ap (λ x. record b { bank = x; user = a.user }) f ∙ ap (λ x. record b { user = x }) g)
+same_at : (k : Key) (a b : Handles) → list_all (λ j. same_handle (of_key j a) (of_key j b)) every_key ≡ true
+    → same_handle (of_key k a) (of_key k b) ≡ true
+same_at keys.Importance a b e = and_left (same_handle a.importance b.importance) _ e
+same_at keys.Bank a b e = and_left (same_handle a.bank b.bank) _
+    (and_right (same_handle a.importance b.importance) _ e)
+same_at keys.User a b e = and_left (same_handle a.user b.user) _ (and_right (same_handle a.bank b.bank) _
+    (and_right (same_handle a.importance b.importance) _ e))
+same_at keys.Test a b e = and_left (same_handle a.test b.test) _ (and_right (same_handle a.user b.user) _
+    (and_right (same_handle a.bank b.bank) _ (and_right (same_handle a.importance b.importance) _ e)))
 
 pub handles_eq : (a b : Handles) → same_handles a b ≡ true → a ≡ b
-handles_eq a b e =
-    let r : (same_handle a.bank b.bank && same_handle a.user b.user) ≡ true =
-    both_right (same_handle a.importance b.importance) _ e in
-    handles_parts a b (handle_eq a.importance b.importance (both_left _
-    (same_handle a.bank b.bank && same_handle a.user b.user) e))
-    (handle_eq a.bank b.bank (both_left _ (same_handle a.user b.user) r))
-    (handle_eq a.user b.user (both_right (same_handle a.bank b.bank) _ r))
+handles_eq a b e = equal_where_equal a b (λ k. handle_eq (of_key k a) (of_key k b) (same_at k a b e))
 
 abbrev names_any : List Named → Place → Bool
 names_any names p = list_any (λ (n : Named). has_place n.voucher p) names
@@ -130,7 +128,7 @@ create_holds m x lets v p o None e =
 
 -- the frame that ends a call
 abbrev pub ending : Frame → List Place → Frame
-ending f lets = record f { forming = None; keys = []; lets = f.lets ++ lets }
+ending f lets = record f { forming = None; answered = true; keys = []; lets = f.lets ++ lets }
 
 pub put_create_spot : (m : Machine) (t : ℕ) (f : Frame) (v : Handles) (call : Call) (p : Place)
     → (tasked m t).frame ≡ Some f → f.forming ≡ Some v
@@ -140,7 +138,7 @@ put_create_spot m t f v call p e forming =
     (task_in_range m t f e)
     ∙ (one_eq _ _ _ _ _ _ _ _
     (ap (λ b. b || (known_to (with_name (tasked m t) v (name_of (tasked m t).names v)) p || others_hold m t p))
-    (closed_holds (ending f (doubled m v)) p)
+    (closed_holds (ending f (doubled m v)) p (λ _. refl))
     ∙ (create_holds m (tasked m t) f.lets v p (others_hold m t p) (name_of (tasked m t).names v) refl
     ∙ sym (ap (λ x. (option_has x p || lets_hold f.lets p) || (known_to (tasked m t) p || others_hold m t p))
     forming)))

@@ -1,27 +1,29 @@
 -- One record in the machine, on handles, and in the sequential store, on values.
 use Rattle.std.proofs.Common.{◌≡◌, ℕ, Bool, List, [], ◌∷◌, refl, true, false, not, ◌&&◌, ◌||◌, arith, sym, ap, ◌∙◌, length, map, Some, None, Option, Ok, Err, Result}
-use Rattle.std.specs.Prelude.{if◌then◌else◌, ◌==◌, nat_lt, is_some, ℤ, pos}
+use Rattle.std.specs.Prelude.{if◌then◌else◌, ◌==◌, is_some, ℤ}
 use Rattle.vch_base.specs.declared.key.Key.{Key}
 use Rattle.vch_base.specs.declared.key.Key.TheVariants as keys
-use Rattle.vch_base.specs.Keys.{key_of}
+use Rattle.vch_base.specs.declared.key.TheConstants.{ALL_KEYS}
+use Rattle.vch_base.specs.declared.codes.TheConstants.{KERN_INVALID_ARGUMENT}
+use Rattle.vch_base.specs.declared.commands.TheConstants as commands
+use Rattle.vch_base.specs.Keyed.{of_key}
+use Rattle.vch_base.specs.Keys.{managed, key_among, key_of}
 use Rattle.vch_recipe.specs.declared.recipe.Recipe.{Recipe}
-use Rattle.vch_model.specs.Voucher.{Voucher, set_at, equal_options}
-use Rattle.vch_model.specs.Voucher as voucher
+use Rattle.vch_model.specs.Voucher.{Voucher, nothing}
 use Rattle.vch_model.specs.Store.{voucher_of}
-use Rattle.vch_model.specs.Eval.{answer_to, put_answer, previous_value, ask_at, loses, takes, each_key, at_key, changes, redeemed, carried, with_previous, eval}
-use Rattle.vch_model.specs.Eval as evals
-use Rattle.vch_model.specs.Legal.{asks}
-use Rattle.vch_machine.specs.State.{Handles, of_key, with_key, Living, Named, value_at, valued, valued_option, named_of}
+use Rattle.vch_model.specs.Eval.{answer_to, put_answer, previous_value, ask_at, each_key, redeemed, is_core_command, is_plain_command, carried, with_previous, eval}
+use Rattle.vch_model.specs.Legal.{is_managers, asks}
+use Rattle.vch_machine.specs.State.{Handles, Living, Named, value_at, valued, valued_option, named_of}
 use Rattle.vch_machine.specs.Making.{or_map, previous_of}
-use Rattle.vch_machine.specs.Naming.{same_handle, handles_of}
+use Rattle.vch_machine.specs.Naming.{handles_of}
 use Rattle.vch_machine.specs.Next.{known_name}
-use Rattle.vch_machine.specs.Working.{Worked, copies, removes, changed, changed_at, changed_keys, copied, worked, worked_with}
+use Rattle.vch_machine.specs.Working.{worked, worked_with}
 use Rattle.vch_legal.specs.Facts.{Different}
 use Rattle.vch_legal.specs.Tie.{previous_in}
-use Rattle.vch_legal.proofs.EventSpots.{cases_bool}
-use Rattle.vch_legal.proofs.Forming.{LiveAt, valued_with, same_values}
+use Rattle.vch_legal.proofs.Choices.{cases_bool, and_left, and_right, number_eq, or_left, or_right}
 use Rattle.vch_legal.proofs.SeenHeld.{value_at_key}
 use Rattle.vch_legal.proofs.SeenNames.{LiveAll, AllLive}
+use Rattle.vch_legal.proofs.RecordChanges.{valued_result, fresh_work, if_alike, copied_alike, LiveOption, removed_alike}
 
 -- the vouchers of names, as the store sees them
 abbrev pub seen_names : List Living → List Named → ℕ → Option Voucher
@@ -43,162 +45,46 @@ known_seen : (live : List Living) (names : List Named) (name : ℕ) → is_some 
 known_seen live names name = of_handles (handles_of names name) ∙ sym (ap is_some (voucher_seen live names name))
   where
     of_handles : (o : Option Handles) → is_some {T = Voucher}
-        (elim o [ None ↦ None | Some v ↦ Some (record { importance = None; bank = None; user = None }) ])
+        (elim o [ None ↦ None | Some v ↦ Some nothing ])
         ≡ is_some (valued_option live o)
     of_handles None = refl
     of_handles (Some v) = refl
 
-abbrev asks_by : Bool → Recipe → Bool
-asks_by known r = ((r.previous == 0) || known) &&
-    ((nat_lt 5 r.command && is_some (key_of r.key)) ||
-    ((r.command == 10) && ((r.key == 4294967295) && (length r.content == 0))))
+-- what a record asks of a manager, where its previous voucher is there
+abbrev Managed : ℕ → Recipe → Bool
+Managed version r = (is_managers r.command && is_some (key_of version r.key)) ||
+    ((r.command == commands.REDEEM) && ((r.key == ALL_KEYS) && (length r.content == 0)))
 
 -- a record asks by the names of the machine where it asks by those of the store
-pub asks_same : (live : List Living) (names : List Named) (r : Recipe) → asks (known_name names) r
-    ≡ asks (seen_names live names) r
-asks_same live names r = ap (λ b. asks_by b r) (known_seen live names r.previous)
-
--- what a record that asks no manager is seen to give
-abbrev pub valued_result : List Living → Result Worked ℤ → Result Voucher ℤ
-valued_result live (Ok w) = Ok (valued live w.forming)
-valued_result live (Err code) = Err code
-
-abbrev apply : Key → Option (Option ℕ) → Handles → Handles
-apply k None v = v
-apply k (Some x) v = with_key k x v
-
-changed_forming : (k : Key) (o : Option (Option ℕ)) (w : Worked) → (changed k o w).forming ≡ apply k o w.forming
-changed_forming k None w = refl
-changed_forming k (Some x) w = refl
-
--- a change of a key by the machine is one by the store, where the key is as it was
-abbrev Alike : List Living → Handles → (Key → Option (Option ℕ)) → (Key → Voucher → Voucher) → Type 0
-Alike live map f g = (k : Key) (v : Handles) → of_key k v ≡ of_key k map → valued live (apply k (f k) v)
-    ≡ g k (valued live v)
-
-copies_alike : (live : List Living) (p map : Handles) → Alike live map (copies (Some p) map)
-    (λ k. takes k (Some (valued live p)))
-copies_alike live p map k v e = valued_with live k (of_key k p) v
-    ∙ ap (λ x. set_at k x (valued live v)) (sym (value_at_key live k p))
-
-removes_none : (live : List Living) (map : Handles) → Alike live map (removes None map) (λ k. loses k None)
-removes_none live map k v e = valued_with live k None v
-
-pub live_at_key : (live : List Living) (v : Handles) (k : Key) → LiveAll live v → LiveAt live k (of_key k v)
-live_at_key live v keys.Importance l = l.importance
-live_at_key live v keys.Bank l = l.bank
-live_at_key live v keys.User l = l.user
-
-removes_alike : (live : List Living) (p map : Handles) → Different live → LiveAll live p → LiveAll live map
-    → Alike live map (removes (Some p) map) (λ k. loses k (Some (valued live p)))
-removes_alike live p map d lp lm k v e =
-    by_test (same_handle (of_key k p) (of_key k map))
-    ∙ ap (λ b. if b then set_at k None (valued live v) else valued live v) (sym test)
-  where
-    test : equal_options (voucher.value_at k (valued live p)) (voucher.value_at k (valued live v))
-        ≡ same_handle (of_key k p) (of_key k map)
-    test = ap (λ x. equal_options x (voucher.value_at k (valued live v))) (value_at_key live k p)
-        ∙ (ap (λ x. equal_options (value_at live k (of_key k p)) x) (value_at_key live k v ∙ ap (value_at live k) e)
-        ∙ same_values live k (of_key k p) (of_key k map) d (live_at_key live p k lp) (live_at_key live map k lm))
-
-    by_test : (b : Bool) → valued live (apply k (if b then Some None else None) v)
-        ≡ (if b then set_at k None (valued live v) else valued live v)
-    by_test true = valued_with live k None v
-    by_test false = refl
-
-apply_bank : (o : Option (Option ℕ)) (v : Handles) → of_key keys.Bank (apply keys.Importance o v) ≡ of_key keys.Bank v
-apply_bank None v = refl
-apply_bank (Some x) v = refl
-
-apply_user : (o : Option (Option ℕ)) (v : Handles) → of_key keys.User (apply keys.Importance o v) ≡ of_key keys.User v
-apply_user None v = refl
-apply_user (Some x) v = refl
-
-apply_user_bank : (o : Option (Option ℕ)) (v : Handles) → of_key keys.User (apply keys.Bank o v) ≡ of_key keys.User v
-apply_user_bank None v = refl
-apply_user_bank (Some x) v = refl
-
-abbrev fresh_work : Handles → Worked
-fresh_work map = record { forming = map; left = [] }
-
-each_alike : (live : List Living) (map : Handles) (f : Key → Option (Option ℕ)) (g : Key → Voucher → Voucher)
-    → Alike live map f g
-    → valued live (changed keys.User (f keys.User)
-    (changed keys.Bank (f keys.Bank) (changed keys.Importance (f keys.Importance) (fresh_work map)))).forming
-    ≡ each_key g (valued live map)
-each_alike live map f g alike =
-    ap (valued live) (changed_forming keys.User (f keys.User) _ ∙ ap (apply keys.User (f keys.User))
-    (changed_forming keys.Bank (f keys.Bank) _ ∙ ap (apply keys.Bank (f keys.Bank))
-    (changed_forming keys.Importance (f keys.Importance) (fresh_work map))))
-    ∙ (alike keys.User two (apply_user_bank (f keys.Bank) one ∙ apply_user (f keys.Importance) map)
-    ∙ ap (g keys.User) (alike keys.Bank one (apply_bank (f keys.Importance) map)
-    ∙ ap (g keys.Bank) (alike keys.Importance map refl)))
-  where
-    one : Handles
-    one = apply keys.Importance (f keys.Importance) map
-
-    two : Handles
-    two = apply keys.Bank (f keys.Bank) (apply keys.Importance (f keys.Importance) map)
-
-at_alike : (live : List Living) (map : Handles) (f : Key → Option (Option ℕ)) (g : Key → Voucher → Voucher)
-    (k : Option Key) → Alike live map f g
-    → valued_result live (changed_at f k (fresh_work map)) ≡ at_key g k (valued live map)
-at_alike live map f g None alike = refl
-at_alike live map f g (Some k) alike = ap Ok (ap (valued live) (changed_forming k (f k) (fresh_work map))
-    ∙ alike k map refl)
-
-if_alike : (live : List Living) (b : Bool) (x y : Result Worked ℤ) (u v : Result Voucher ℤ)
-    → (b ≡ true → valued_result live x ≡ u) → (b ≡ false → valued_result live y ≡ v)
-    → valued_result live (if b then x else y) ≡ (if b then u else v)
-if_alike live true x y u v h k = h refl
-if_alike live false x y u v h k = k refl
-
-keys_alike : (live : List Living) (map : Handles) (f : Key → Option (Option ℕ)) (g : Key → Voucher → Voucher)
-    (key : ℕ) → Alike live map f g
-    → valued_result live (changed_keys f key (fresh_work map)) ≡ changes g key (valued live map)
-keys_alike live map f g key alike =
-    if_alike live (key == 4294967295) _ _ _ _ (λ _. ap Ok (each_alike live map f g alike))
-    (λ _. at_alike live map f g (key_of key) alike)
-
-copied_alike : (live : List Living) (p : Option Handles) (map : Handles) (key : ℕ)
-    → valued_result live (copied p key (fresh_work map)) ≡ evals.copied (valued_option live p) key (valued live map)
-copied_alike live None map key = refl
-copied_alike live (Some p) map key = keys_alike live map (copies (Some p) map) (λ k. takes k (Some (valued live p)))
-    key (copies_alike live p map)
-
-abbrev pub LiveOption : List Living → Option Handles → Type 0
-LiveOption live None = Unit {0}
-LiveOption live (Some v) = LiveAll live v
-
-removed_alike : (live : List Living) (p : Option Handles) (map : Handles) (key : ℕ) → Different live
-    → LiveOption live p → LiveAll live map
-    → valued_result live (changed_keys (removes p map) key (fresh_work map))
-    ≡ changes (λ k. loses k (valued_option live p)) key (valued live map)
-removed_alike live None map key d lp lm = keys_alike live map (removes None map) (λ k. loses k None) key
-    (removes_none live map)
-removed_alike live (Some p) map key d lp lm = keys_alike live map (removes (Some p) map)
-    (λ k. loses k (Some (valued live p))) key (removes_alike live p map d lp lm)
+pub asks_same : (version : ℕ) (live : List Living) (names : List Named) (r : Recipe) → asks version (known_name names) r
+    ≡ asks version (seen_names live names) r
+asks_same version live names r =
+    ap (λ b. ((r.previous == 0) || b) && Managed version r) (known_seen live names r.previous)
 
 -- what a record does that asks no manager
-abbrev managed : Recipe → Bool
-managed r = (nat_lt 5 r.command && is_some (key_of r.key)) ||
-    ((r.command == 10) && ((r.key == 4294967295) && (length r.content == 0)))
 
-above_five : (n : ℕ) → ((n == 3) || ((n == 4) || (n == 5))) ≡ false → ((n == 0) || ((n == 1) || (n == 2))) ≡ false
-    → nat_lt 5 n ≡ true
-above_five n a b = grind arith
+managers_own : (a b : Bool) → a ≡ false → b ≡ false → not (a || b) ≡ true
+managers_own a b e g = grind arith
 
-neither : (r : Recipe) (t : ℕ) (p : Option Voucher) (map : Voucher) → nat_lt 5 r.command ≡ true → managed r ≡ false
-    → ◌≡◌ {A = Result Voucher ℤ} (Err (pos 4)) (if r.key == 4294967295 then
-    (if (r.command == 10) && (length r.content == 0) then Ok (each_key (λ key. redeemed key p) map) else Err (pos 4))
-    else ask_at (key_of r.key) t r p map)
-neither r t p map above it_does_not =
-    cases_bool (r.key == 4294967295) _
-    (λ all. let e : ((r.command == 10) && (length r.content == 0))
-    ≡ false = first_part (nat_lt 5 r.command && is_some (key_of r.key)) (r.command == 10) (r.key == 4294967295)
-    (length r.content == 0) all it_does_not in rw (all, e) refl)
-    (λ one. let e : is_some (key_of r.key) ≡ false = second_part (nat_lt 5 r.command) (is_some (key_of r.key)) _ above
-    it_does_not in rw one (of_key_none (key_of r.key) e))
+not_cores : (a b : Bool) → not (a || b) ≡ true → a ≡ false
+not_cores a b e = grind arith
+
+not_plain : (a b : Bool) → not (a || b) ≡ true → b ≡ false
+not_plain a b e = grind arith
+
+neither : (version : ℕ) (r : Recipe) (t : ℕ) (p : Option Voucher) (map : Voucher) → is_managers r.command ≡ true
+    → Managed version r ≡ false
+    → ◌≡◌ {A = Result Voucher ℤ} (Err KERN_INVALID_ARGUMENT) (if r.key == ALL_KEYS then
+    (if (r.command == commands.REDEEM) && (length r.content == 0)
+    then Ok (each_key (λ key. redeemed key p) (managed version) map) else Err KERN_INVALID_ARGUMENT)
+    else ask_at (key_of version r.key) t r p map)
+neither version r t p map above it_does_not =
+    cases_bool (r.key == ALL_KEYS) _
+    (λ all. let e : ((r.command == commands.REDEEM) && (length r.content == 0))
+    ≡ false = first_part (is_managers r.command && is_some (key_of version r.key)) (r.command == commands.REDEEM)
+    (r.key == ALL_KEYS) (length r.content == 0) all it_does_not in rw (all, e) refl)
+    (λ one. let e : is_some (key_of version r.key) ≡ false = second_part (is_managers r.command)
+    (is_some (key_of version r.key)) _ above it_does_not in rw one (of_key_none (key_of version r.key) e))
   where
     first_part : (a c k n : Bool) → k ≡ true → (a || (c && (k && n))) ≡ false → (c && n) ≡ false
     first_part a c k n h e = grind arith
@@ -206,28 +92,31 @@ neither r t p map above it_does_not =
     second_part : (a b c : Bool) → a ≡ true → ((a && b) || c) ≡ false → b ≡ false
     second_part a b c h e = grind arith
 
-    of_key_none : (k : Option Key) → is_some k ≡ false → Err (pos 4) ≡ ask_at k t r p map
+    of_key_none : (k : Option Key) → is_some k ≡ false → Err KERN_INVALID_ARGUMENT ≡ ask_at k t r p map
     of_key_none None e = refl
     of_key_none (Some k) e = cc
 
-carried_alike : (live : List Living) (t : ℕ) (r : Recipe) (p : Option Handles) (map : Handles) → Different live
-    → LiveOption live p → LiveAll live map → managed r ≡ false
-    → valued_result live (worked r p (fresh_work map)) ≡ carried t r (valued_option live p) (valued live map)
-carried_alike live t r p map d lp lm it_does_not =
-    if_alike live ((r.command == 3) || ((r.command == 4) || (r.command == 5))) _ _ _ _ (λ _. refl)
-    (λ a. if_alike live ((r.command == 0) || ((r.command == 1) || (r.command == 2))) _ _ _ _
+carried_alike : (version : ℕ) (live : List Living) (t : ℕ) (r : Recipe) (p : Option Handles) (map : Handles)
+    → Different live → LiveOption live p → LiveAll live map → Managed version r ≡ false
+    → valued_result live (worked version r p (fresh_work map))
+    ≡ carried version t r (valued_option live p) (valued live map)
+carried_alike version live t r p map d lp lm it_does_not =
+    if_alike live (is_core_command r.command) _ _ _ _ (λ _. refl)
+    (λ a. if_alike live (is_plain_command r.command) _ _ _ _
     (λ _. if_alike live (not (length r.content == 0)) _ _ _ _ (λ _. refl)
-    (λ _. if_alike live (r.command == 0) _ _ _ _ (λ _. refl)
-    (λ _. if_alike live (r.command == 1) _ _ _ _ (λ _. copied_alike live p map r.key)
-    (λ _. removed_alike live p map r.key d lp lm))))
-    (λ b. neither r t (valued_option live p) (valued live map) (above_five r.command a b) it_does_not))
+    (λ _. if_alike live (r.command == commands.NOOP) _ _ _ _ (λ _. refl)
+    (λ _. if_alike live (r.command == commands.COPY) _ _ _ _ (λ _. copied_alike live p map version r.key)
+    (λ _. removed_alike live p map version r.key d lp lm))))
+    (λ b. neither version r t (valued_option live p) (valued live map)
+    (managers_own (is_core_command r.command) (is_plain_command r.command) a b) it_does_not))
 
-with_alike : (live : List Living) (t : ℕ) (r : Recipe) (p : Option Handles) (map : Handles) → Different live
-    → LiveOption live p → LiveAll live map → (is_some p ≡ true → managed r ≡ false)
-    → valued_result live (worked_with r p (fresh_work map)) ≡ with_previous t r (valued_option live p)
-    (valued live map)
-with_alike live t r None map d lp lm it_does_not = refl
-with_alike live t r (Some p) map d lp lm it_does_not = carried_alike live t r (Some p) map d lp lm (it_does_not refl)
+with_alike : (version : ℕ) (live : List Living) (t : ℕ) (r : Recipe) (p : Option Handles) (map : Handles)
+    → Different live → LiveOption live p → LiveAll live map → (is_some p ≡ true → Managed version r ≡ false)
+    → valued_result live (worked_with version r p (fresh_work map))
+    ≡ with_previous version t r (valued_option live p) (valued live map)
+with_alike version live t r None map d lp lm it_does_not = refl
+with_alike version live t r (Some p) map d lp lm it_does_not =
+    carried_alike version live t r (Some p) map d lp lm (it_does_not refl)
 
 pub named_live : (live : List Living) (names : List Named) (name : ℕ) → AllLive live names
     → LiveOption live (handles_of names name)
@@ -240,29 +129,23 @@ named_live live (n ∷ names) name h = by_test (n.name == name) (named_live live
     by_test false i = i
 
 -- a record that asks no manager gives the same in the machine and in the store
-pub record_alike : (live : List Living) (names : List Named) (t : ℕ) (r : Recipe) (map : Handles) → Different live
-    → AllLive live names → LiveAll live map → asks (seen_names live names) r ≡ false
-    → valued_result live (if r.previous == 0 then worked r None (fresh_work map) else worked_with r
-    (handles_of names r.previous) (fresh_work map)) ≡ eval (seen_names live names) t r (valued live map)
-record_alike live names t r map d ln lm it_does_not =
+pub record_alike : (version : ℕ) (live : List Living) (names : List Named) (t : ℕ) (r : Recipe) (map : Handles)
+    → Different live → AllLive live names → LiveAll live map → asks version (seen_names live names) r ≡ false
+    → valued_result live (if r.previous == 0 then worked version r None (fresh_work map) else worked_with version r
+    (handles_of names r.previous) (fresh_work map)) ≡ eval version (seen_names live names) t r (valued live map)
+record_alike version live names t r map d ln lm it_does_not =
     if_alike live (r.previous == 0) _ _ _ _
-    (λ zero. carried_alike live t r None map d tt lm
-    (not_managed (r.previous == 0) (is_some (seen_names live names r.previous)) (managed r)
+    (λ zero. carried_alike version live t r None map d tt lm
+    (not_managed (r.previous == 0) (is_some (seen_names live names r.previous)) (Managed version r)
     (or_left (r.previous == 0) _ zero) it_does_not))
-    (λ some. with_alike live t r (handles_of names r.previous) map d (named_live live names r.previous ln) lm
-    (λ known. not_managed (r.previous == 0) (is_some (seen_names live names r.previous)) (managed r)
+    (λ some. with_alike version live t r (handles_of names r.previous) map d (named_live live names r.previous ln) lm
+    (λ known. not_managed (r.previous == 0) (is_some (seen_names live names r.previous)) (Managed version r)
     (or_right (r.previous == 0) _ (ap is_some (voucher_seen live names r.previous)
     ∙ of_some (handles_of names r.previous) known)) it_does_not)
-    ∙ ap (λ o. with_previous t r o (valued live map)) (sym (voucher_seen live names r.previous)))
+    ∙ ap (λ o. with_previous version t r o (valued live map)) (sym (voucher_seen live names r.previous)))
   where
     not_managed : (a b c : Bool) → (a || b) ≡ true → ((a || b) && c) ≡ false → c ≡ false
     not_managed a b c h e = grind arith
-
-    or_left : (a b : Bool) → a ≡ true → (a || b) ≡ true
-    or_left a b h = grind arith
-
-    or_right : (a b : Bool) → b ≡ true → (a || b) ≡ true
-    or_right a b h = grind arith
 
     of_some : (o : Option Handles) → is_some o ≡ true → is_some (valued_option live o) ≡ true
     of_some None h = cc
@@ -287,63 +170,59 @@ previous_alike live names map name k =
     by_test false = by_handles (handles_of names name)
 
 -- a record that asks a manager, with its previous voucher
-pub eval_asked : (names : ℕ → Option Voucher) (t : ℕ) (r : Recipe) (map : Voucher) → asks names r ≡ true
-    → eval names t r map ≡ carried t r (previous_in names r.previous) map
-eval_asked names t r map it_asks = by_test (r.previous == 0)
-    (known (r.previous == 0) (is_some (names r.previous)) (managed r) it_asks)
+pub eval_asked : (version : ℕ) (names : ℕ → Option Voucher) (t : ℕ) (r : Recipe) (map : Voucher)
+    → asks version names r ≡ true → eval version names t r map ≡ carried version t r (previous_in names r.previous) map
+eval_asked version names t r map it_asks = by_test (r.previous == 0)
+    (and_left ((r.previous == 0) || is_some (names r.previous)) (Managed version r) it_asks)
   where
-    known : (a b c : Bool) → ((a || b) && c) ≡ true → (a || b) ≡ true
-    known a b c h = grind arith
-
-    of_names : (o : Option Voucher) → is_some o ≡ true → with_previous t r o map ≡ carried t r o map
+    of_names : (o : Option Voucher) → is_some o ≡ true → with_previous version t r o map ≡ carried version t r o map
     of_names None h = cc
     of_names (Some v) h = refl
 
     by_test : (b : Bool) → (b || is_some (names r.previous)) ≡ true
-        → (if b then carried t r None map else with_previous t r (names r.previous) map)
-        ≡ carried t r (if b then None else names r.previous) map
+        → (if b then carried version t r None map else with_previous version t r (names r.previous) map)
+        ≡ carried version t r (if b then None else names r.previous) map
     by_test true h = refl
     by_test false h = of_names (names r.previous) h
 
-asks_managed : (names : ℕ → Option Voucher) (r : Recipe) → asks names r ≡ true → managed r ≡ true
-asks_managed names r it_asks = second ((r.previous == 0) || is_some (names r.previous)) (managed r) it_asks
-  where
-    second : (a c : Bool) → (a && c) ≡ true → c ≡ true
-    second a c h = grind arith
+asks_managed : (version : ℕ) (names : ℕ → Option Voucher) (r : Recipe) → asks version names r ≡ true
+    → Managed version r ≡ true
+asks_managed version names r it_asks =
+    and_right ((r.previous == 0) || is_some (names r.previous)) (Managed version r) it_asks
 
 -- a record at one key
-pub carried_one : (names : ℕ → Option Voucher) (t : ℕ) (r : Recipe) (p : Option Voucher) (map : Voucher) (k : Key)
-    → asks names r ≡ true → (r.key == 4294967295) ≡ false → key_of r.key ≡ Some k
-    → carried t r p map ≡ put_answer k map (answer_to k t r.command (previous_value k p map) r.content)
-carried_one names t r p map k it_asks one e =
-    let a : nat_lt 5 r.command ≡ true = command (nat_lt 5 r.command) (is_some (key_of r.key)) (r.command == 10)
-    (r.key == 4294967295) (length r.content == 0) one (asks_managed names r it_asks) in
-    rw (low r.command a, lower r.command a, one) (ap (λ o. ask_at o t r p map) e)
+pub carried_one : (version : ℕ) (names : ℕ → Option Voucher) (t : ℕ) (r : Recipe) (p : Option Voucher) (map : Voucher)
+    (k : Key) → asks version names r ≡ true → (r.key == ALL_KEYS) ≡ false → key_of version r.key ≡ Some k
+    → carried version t r p map ≡ put_answer k map (answer_to k t r.command (previous_value k p map) r.content)
+carried_one version names t r p map k it_asks one e =
+    let a : is_managers r.command ≡ true = command (is_managers r.command) (is_some (key_of version r.key))
+    (r.command == commands.REDEEM) (r.key == ALL_KEYS) (length r.content == 0) one
+    (asks_managed version names r it_asks) in
+    let b : is_core_command r.command ≡ false = not_cores (is_core_command r.command) (is_plain_command r.command) a in
+    let c : is_plain_command r.command ≡ false = not_plain (is_core_command r.command) (is_plain_command r.command) a in
+    rw (b, c, one) (ap (λ o. ask_at o t r p map) e)
   where
     command : (a b c d f : Bool) → d ≡ false → ((a && b) || (c && (d && f))) ≡ true → a ≡ true
     command a b c d f h e = grind arith
 
-    low : (n : ℕ) → nat_lt 5 n ≡ true → ((n == 3) || ((n == 4) || (n == 5))) ≡ false
-    low n h = grind arith
-
-    lower : (n : ℕ) → nat_lt 5 n ≡ true → ((n == 0) || ((n == 1) || (n == 2))) ≡ false
-    lower n h = grind arith
-
-all_is_none : (n : ℕ) → (n == 4294967295) ≡ true → is_some (key_of n) ≡ false
-all_is_none n e = let k : n ≡ 4294967295 = number n 4294967295 e in rw k refl
+all_is_none : (version n : ℕ) → (n == ALL_KEYS) ≡ true → is_some (key_of version n) ≡ false
+all_is_none version n e = ap (λ k. is_some (key_of version k)) (number_eq n ALL_KEYS e) ∙ by_test (version == 2)
   where
-    number : (a b : ℕ) → (a == b) ≡ true → a ≡ b
-    number a b e = grind arith
+    by_test : (b : Bool)
+        → is_some (key_among (keys.Importance ∷ keys.Bank ∷ keys.User ∷ (if b then keys.Test ∷ [] else []))
+        ALL_KEYS) ≡ false
+    by_test true = refl
+    by_test false = refl
 
 -- a record that redeems all keys: its command and its content
-pub redeems : (names : ℕ → Option Voucher) (r : Recipe) → asks names r ≡ true → (r.key == 4294967295) ≡ true
-    → ((r.command == 10) ≡ true) × ((length r.content == 0) ≡ true)
-redeems names r it_asks all =
-    let m : managed r ≡ true = asks_managed names r it_asks in let n : is_some (key_of r.key)
-    ≡ false = all_is_none r.key all in (
-      ten (nat_lt 5 r.command) (is_some (key_of r.key)) (r.command == 10) (r.key == 4294967295)
+pub redeems : (version : ℕ) (names : ℕ → Option Voucher) (r : Recipe) → asks version names r ≡ true
+    → (r.key == ALL_KEYS) ≡ true → ((r.command == commands.REDEEM) ≡ true) × ((length r.content == 0) ≡ true)
+redeems version names r it_asks all =
+    let m : Managed version r ≡ true = asks_managed version names r it_asks in
+    let n : is_some (key_of version r.key) ≡ false = all_is_none version r.key all in (
+      ten (is_managers r.command) (is_some (key_of version r.key)) (r.command == commands.REDEEM) (r.key == ALL_KEYS)
           (length r.content == 0) n m,
-      bare (nat_lt 5 r.command) (is_some (key_of r.key)) (r.command == 10) (r.key == 4294967295)
+      bare (is_managers r.command) (is_some (key_of version r.key)) (r.command == commands.REDEEM) (r.key == ALL_KEYS)
           (length r.content == 0) n m,
     )
   where
@@ -353,16 +232,13 @@ redeems names r it_asks all =
     bare : (a b c d f : Bool) → b ≡ false → ((a && b) || (c && (d && f))) ≡ true → f ≡ true
     bare a b c d f h e = grind arith
 
-pub carried_all : (names : ℕ → Option Voucher) (t : ℕ) (r : Recipe) (p : Option Voucher) (map : Voucher)
-    → asks names r ≡ true → (r.key == 4294967295) ≡ true
-    → carried t r p map ≡ Ok (each_key (λ key. redeemed key p) map)
-carried_all names t r p map it_asks all =
-    let c : (r.command == 10) ≡ true = (redeems names r it_asks all).0 in
-    let n : (length r.content == 0) ≡ true = (redeems names r it_asks all).1 in
-    rw (low r.command c, lower r.command c, all, c, n) refl
-  where
-    low : (n : ℕ) → (n == 10) ≡ true → ((n == 3) || ((n == 4) || (n == 5))) ≡ false
-    low n h = grind arith
-
-    lower : (n : ℕ) → (n == 10) ≡ true → ((n == 0) || ((n == 1) || (n == 2))) ≡ false
-    lower n h = grind arith
+pub carried_all : (version : ℕ) (names : ℕ → Option Voucher) (t : ℕ) (r : Recipe) (p : Option Voucher) (map : Voucher)
+    → asks version names r ≡ true → (r.key == ALL_KEYS) ≡ true
+    → carried version t r p map ≡ Ok (each_key (λ key. redeemed key p) (managed version) map)
+carried_all version names t r p map it_asks all =
+    let c : (r.command == commands.REDEEM) ≡ true = (redeems version names r it_asks all).0 in
+    let n : (length r.content == 0) ≡ true = (redeems version names r it_asks all).1 in
+    let i : r.command ≡ commands.REDEEM = number_eq r.command commands.REDEEM c in
+    let a : is_core_command r.command ≡ false = ap is_core_command i in
+    let b : is_plain_command r.command ≡ false = ap is_plain_command i in
+    rw (a, b, all, c, n) refl

@@ -1,5 +1,5 @@
 -- All stands at the start, through every move, and so along every run, whose history is legal, and whole at its end.
-use Rattle.std.proofs.Common.{◌≡◌, ℕ, suc, ◌+◌, ◌-◌, ◌<◌, ◌≤◌, Bool, List, [], ◌∷◌, refl, true, false, not, ◌&&◌, arith, sym, ap, subst, length, map, reverse, get_or, Some, None, Option}
+use Rattle.std.proofs.Common.{◌≡◌, ℕ, suc, ◌+◌, ◌<◌, ◌≤◌, Bool, List, [], ◌∷◌, refl, true, false, not, ◌&&◌, arith, sym, ap, subst, length, map, reverse, Some, None, Option}
 use Rattle.std.proofs.lemmas.List.{reverse-reverse}
 use Rattle.std.specs.Prelude.{if◌then◌else◌, nat_lt}
 use Rattle.vch_base.specs.declared.flags.Flags.{Flags}
@@ -10,8 +10,8 @@ use Rattle.vch_model.specs.Store as store
 use Rattle.vch_model.specs.Store.{Store, Member}
 use Rattle.vch_model.specs.Lines.{calls_in, phases_in, is_task, lines_of, lines_until}
 use Rattle.vch_model.specs.Legal.{Legal, LegalPast, Ended, Whole, all_held}
-use Rattle.vch_machine.specs.State.{Machine, idle, tasked, start, member_of, default_living, is_empty}
-use Rattle.vch_machine.specs.Events.{phase_event, ready, numbers}
+use Rattle.vch_machine.specs.State.{Machine, idle, tasked, start, member_of, default_living}
+use Rattle.vch_machine.specs.Events.{phase_event, all_at_rest}
 use Rattle.vch_machine.specs.Frames.{noted}
 use Rattle.vch_machine.specs.Schedules.{Move, happens, run, run_from_start, has_ended}
 use Rattle.vch_legal.specs.Facts.{Fits, bit}
@@ -21,7 +21,7 @@ use Rattle.vch_legal.proofs.PhaseLines.{all_lines, no_lines, more_lines}
 use Rattle.vch_legal.proofs.Follows.{entry_legal}
 use Rattle.vch_legal.proofs.OwnSteps.{Before}
 use Rattle.vch_legal.proofs.EventSteps.{event_stands}
-use Rattle.vch_legal.proofs.AtRest.{Rests, task_rests, rest_answered, none_ready, task_of, none_frame, each_task, rest_all_held}
+use Rattle.vch_legal.proofs.AtRest.{each_rests, rest_answered, task_of, none_frame, each_task, rest_all_held}
 
 -- the start
 
@@ -50,7 +50,7 @@ pub start_stands : (sc : Scenario) → Stands sc (start sc)
 start_stands sc = record {
   fits = start_keeps sc;
   same_store = ap (λ tasks. record (store.start sc) { tasks = tasks }) (idle_members sc.flags);
-  tasks = λ t task. subst (TaskStands sc [] (default_living ∷ []) t) (sym (idle_task sc.flags (t - 1)))
+  tasks = λ t task. subst (TaskStands sc [] (default_living ∷ []) t) (sym (idle_task sc.flags t))
       (idle_stands sc t);
   phases = omega arith;
   rest = λ over. idle_frames sc.flags;
@@ -59,20 +59,12 @@ start_stands sc = record {
 
 -- the end of a phase
 
-rests_of : (sc : Scenario) (m : Machine) → Stands sc m → is_empty (ready sc m (numbers (length sc.flags))) ≡ true
-    → (t : ℕ) → 0 < t → t ≤ length sc.flags → Rests sc m t
-rests_of sc m s e t a b = task_rests sc m t (s.tasks t (task_of sc t a b)) (none_ready sc m (length sc.flags) e t a b)
-
-all_rest : (sc : Scenario) (m : Machine) → Stands sc m → is_empty (ready sc m (numbers (length sc.flags))) ≡ true
-    → any_frame m.tasks ≡ false
+all_rest : (sc : Scenario) (m : Machine) → Stands sc m → all_at_rest sc m ≡ true → any_frame m.tasks ≡ false
 all_rest sc m s e =
-    none_frame m.tasks (λ i l. subst (λ j. (get_or m.tasks j idle).frame ≡ None) (before i)
-    (rests_of sc m s e (suc i) (omega arith) (subst (λ n. suc i ≤ n) s.fits.tasks (omega arith))).frame)
-  where
-    before : (i : ℕ) → suc i - 1 ≡ i
-    before i = omega arith
+    none_frame m.tasks (λ i l. (each_rests sc m e (suc i) (omega arith)
+    (subst (λ n. suc i ≤ n) s.fits.tasks (omega arith))).frame)
 
-noted_stands : (sc : Scenario) (m : Machine) → Stands sc m → is_empty (ready sc m (numbers (length sc.flags))) ≡ true
+noted_stands : (sc : Scenario) (m : Machine) → Stands sc m → all_at_rest sc m ≡ true
     → nat_lt (phases_in m.past) (length sc.phases) ≡ true → Fits sc (noted m entries.Phase)
     → Stands sc (noted m entries.Phase)
 noted_stands sc m s e more fits = record {
@@ -86,7 +78,7 @@ noted_stands sc m s e more fits = record {
     below _ _ more,
     rest_all_held sc m s.fits (all_rest sc m s e),
     each_task (length sc.flags) _ (λ t a b. rest_answered sc m t (s.tasks t (task_of sc t a b))
-        (rests_of sc m s e t a b)),
+        (each_rests sc m e t a b)),
   ) s.legal;
 }
   where
@@ -101,7 +93,7 @@ noted_stands sc m s e more fits = record {
 
     answered : (t : ℕ) → is_task sc t ≡ true → calls_in m.past t ≡ lines_until sc (phases_in m.past + 1) t
     answered t task = rest_answered sc m t (s.tasks t task)
-        (rests_of sc m s e t (above t (length sc.flags) task) (within t (length sc.flags) task))
+        (each_rests sc m e t (above t (length sc.flags) task) (within t (length sc.flags) task))
 
     over : (t : ℕ) → is_task sc t ≡ true → Before sc t m → calls_in m.past t ≡ lines_until sc (phases_in m.past + 1) t
         → TaskStands sc (entries.Phase ∷ m.past) m.live t (tasked m t)
@@ -120,7 +112,7 @@ noted_stands sc m s e more fits = record {
 
 pub phase_stands : (sc : Scenario) (m n : Machine) → Stands sc m → phase_event sc m ≡ Some n → Stands sc n
 unfolding phase_event
-phase_stands sc m n s e = by_test (is_empty (ready sc m (numbers (length sc.flags))) && nat_lt (phases_in m.past)
+phase_stands sc m n s e = by_test (all_at_rest sc m && nat_lt (phases_in m.past)
     (length sc.phases)) refl e
   where
     left : (a b : Bool) → (a && b) ≡ true → a ≡ true
@@ -132,7 +124,7 @@ phase_stands sc m n s e = by_test (is_empty (ready sc m (numbers (length sc.flag
     some_eq : {x y : Machine} → Some x ≡ Some y → x ≡ y
     some_eq h = cc
 
-    by_test : (b : Bool) → (is_empty (ready sc m (numbers (length sc.flags))) && nat_lt (phases_in m.past)
+    by_test : (b : Bool) → (all_at_rest sc m && nat_lt (phases_in m.past)
         (length sc.phases)) ≡ b → (if b then Some (noted m entries.Phase) else None) ≡ Some n → Stands sc n
     by_test true h g = subst (Stands sc) (some_eq g)
         (noted_stands sc m s (left _ _ h) (right _ _ h)

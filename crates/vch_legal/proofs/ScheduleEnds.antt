@@ -8,7 +8,7 @@ use Rattle.vch_machine.specs.Events.{numbers, ready}
 use Rattle.vch_machine.specs.Schedules.{Move, happens, run, run_from_start, lowest_open, turn_task, move_of, has_ended, in_turn, picked, seed_after, by_seed}
 use Rattle.vch_legal.specs.Tie.{Stands}
 use Rattle.vch_legal.specs.Left.{left}
-use Rattle.vch_legal.proofs.EventSpots.{cases_bool}
+use Rattle.vch_legal.proofs.Choices.{cases_bool}
 use Rattle.vch_legal.proofs.Runs.{start_stands, happens_stands}
 use Rattle.vch_legal.proofs.Turns.{all_tasks}
 use Rattle.vch_legal.proofs.ScheduleRuns.{turn_some, all_ready, seed_some}

@@ -1,20 +1,20 @@
 -- The moves of the schedules can happen, one after the other.
-use Rattle.std.proofs.Common.{◌≡◌, ℕ, zero, suc, ◌+◌, ◌%◌, ◌<◌, ◌≤◌, Bool, List, [], ◌∷◌, refl, true, false, not, arith, sym, ap, subst, length, get_or, Some, None, Option}
+use Rattle.std.proofs.Common.{◌≡◌, ℕ, zero, suc, ◌+◌, ◌%◌, ◌<◌, ◌≤◌, Bool, List, [], ◌∷◌, refl, true, false, not, ◌&&◌, arith, sym, ap, subst, length, get_or, Some, None, Option}
 use Rattle.std.proofs.Math.Nat.{mod-lt}
 use Rattle.std.specs.Prelude.{if◌then◌else◌, ◌==◌, nat_lt, is_some, slice_index_or}
-use Rattle.std.specs.List.{count_by, AllByRecursion}
+use Rattle.std.specs.List.{count_by, list_all, AllByRecursion}
 use Rattle.vch_base.specs.declared.kind.Kind.TheVariants as kinds
 use Rattle.vch_model.specs.declared.call.Line.{Line}
 use Rattle.vch_model.specs.declared.lists.Scenario.{Scenario}
 use Rattle.vch_model.specs.Lines.{is_task, calls_in, phases_in, lines_until}
 use Rattle.vch_model.specs.Scenarios.{IsIn, IsLimited}
-use Rattle.vch_machine.specs.State.{Frame, Machine, tasked, start, is_empty}
-use Rattle.vch_machine.specs.Events.{phase_event, numbers, ready}
+use Rattle.vch_machine.specs.State.{Frame, Machine, tasked, start}
+use Rattle.vch_machine.specs.Events.{phase_event, is_at_rest, all_at_rest, numbers, ready}
 use Rattle.vch_machine.specs.Next.{next_kind, task_next}
 use Rattle.vch_machine.specs.Schedules.{Move, happens, run, run_from_start, lowest_open, first_waiting, turn_task, move_of, has_ended, in_turn, drawn, picked, seed_after, by_seed}
 use Rattle.vch_legal.specs.Facts.{bit}
 use Rattle.vch_legal.specs.Tie.{is_answering, Stands}
-use Rattle.vch_legal.proofs.EventSpots.{cases_bool}
+use Rattle.vch_legal.proofs.Choices.{cases_bool}
 use Rattle.vch_legal.proofs.AtRest.{task_of}
 use Rattle.vch_legal.proofs.PhaseCounts.{of_task, lines_with_phase}
 use Rattle.vch_legal.proofs.Possible.{event_some}
@@ -23,8 +23,8 @@ use Rattle.vch_legal.proofs.Turns.{all_numbers, number_of_all, all_tasks, Opened
 
 -- the lines of a phase are calls of tasks
 phase_limited : (sc : Scenario) → (phases : List (List Line)) (p : ℕ)
-    → AllByRecursion (λ lines. AllByRecursion (λ l. IsIn (length sc.flags) l) lines) phases
-    → AllByRecursion (λ l. IsIn (length sc.flags) l) (get_or phases p [])
+    → AllByRecursion (λ lines. AllByRecursion (λ l. IsIn sc.version (length sc.flags) l) lines) phases
+    → AllByRecursion (λ l. IsIn sc.version (length sc.flags) l) (get_or phases p [])
 phase_limited sc [] p h = tt
 phase_limited sc (lines ∷ phases) zero h = h.0
 phase_limited sc (lines ∷ phases) (suc p) h = phase_limited sc phases p h.1
@@ -61,11 +61,23 @@ waiting_next sc m t s task e = by_frame (tasked m t).frame refl
         (sym g) (next_begin _ (below _ _ more))
     by_frame (Some f) g = opened_next sc m t (s.tasks t task) (ap is_some g)
 
--- where no frame is and no line waits, no task has a next event
+-- a task without a frame, and with all calls of the phase begun, is at rest
+rests : (sc : Scenario) (m : Machine) (t : ℕ) → is_some (tasked m t).frame ≡ false
+    → nat_lt (tasked m t).begun (lines_until sc (phases_in m.past + 1) t) ≡ false
+    → is_at_rest sc (phases_in m.past) t (tasked m t) ≡ true
+rests sc m t e h = rw (e, h) refl
+
+-- where no frame is and no line waits, each task is at rest
 pub resting : (sc : Scenario) (m : Machine) (t : ℕ) → Stands sc m → is_task sc t ≡ true → is_some (tasked m t).frame
-    ≡ false → first_waiting sc m [] (now sc m) ≡ None → is_some (next_kind sc m t) ≡ false
-resting sc m t s task none e = by_frame (tasked m t).frame none
+    ≡ false → first_waiting sc m [] (now sc m) ≡ None → is_at_rest sc (phases_in m.past) t (tasked m t) ≡ true
+resting sc m t s task none e = rests sc m t none (not_below _ _ fewer)
   where
+    above : (a b : ℕ) → nat_lt a b ≡ true → a < b
+    above a b h = grind arith
+
+    at_most : (a b : ℕ) → nat_lt a b ≡ false → b ≤ a
+    at_most a b h = grind arith
+
     fewer : lines_until sc (phases_in m.past + 1) t ≤ (tasked m t).begun
     fewer =
         let b : lines_until sc (phases_in m.past + 1) t ≡ lines_until sc (phases_in m.past) t + of_task t (now sc m) =
@@ -78,30 +90,51 @@ resting sc m t s task none e = by_frame (tasked m t).frame none
         (tasked m t).begun = waiting_none sc m [] (now sc m) t e (above _ _ some) in
         let k : count_by (λ u. u == t) [] ≡ 0 = refl in omega arith)
         (λ zero. let z : of_task t (now sc m) ≤ 0 = at_most _ _ zero in omega arith)
-      where
-        above : (a b : ℕ) → nat_lt a b ≡ true → a < b
-        above a b h = grind arith
 
-        at_most : (a b : ℕ) → nat_lt a b ≡ false → b ≤ a
-        at_most a b h = grind arith
+-- a task without a next event is at rest
+pub none_next_rests : (sc : Scenario) (m : Machine) (t : ℕ) → Stands sc m → is_task sc t ≡ true
+    → is_some (next_kind sc m t) ≡ false → is_at_rest sc (phases_in m.past) t (tasked m t) ≡ true
+none_next_rests sc m t s task e = by_frame (tasked m t).frame refl e
+  where
+    begun_all : (b : Bool) → is_some (if b then Some kinds.Begin else None) ≡ false → b ≡ false
+    begun_all true h = cc
+    begun_all false h = refl
 
-    by_frame : (f : Option Frame) → is_some f ≡ false → is_some (task_next sc (phases_in m.past) t (tasked m t) f)
-        ≡ false
-    by_frame None g = none_begins _ (not_below _ _ fewer)
-      where
-        none_begins : (b : Bool) → b ≡ false → is_some (if b then Some kinds.Begin else None) ≡ false
-        none_begins true e = cc
-        none_begins false e = refl
-    by_frame (Some f) g = cc
+    not_both : (b : Bool) → b ≡ true → b ≡ false → ⊥
+    not_both true e h = cc
+    not_both false e h = cc
 
-pub none_are_ready : (sc : Scenario) (m : Machine) (ts : List ℕ)
-    → AllByRecursion (λ t. is_some (next_kind sc m t) ≡ false) ts → is_empty (ready sc m ts) ≡ true
-none_are_ready sc m [] h = refl
-none_are_ready sc m (t ∷ ts) h = rw h.0 (none_are_ready sc m ts h.1)
+    by_frame : (f : Option Frame) → (tasked m t).frame ≡ f
+        → is_some (task_next sc (phases_in m.past) t (tasked m t) f) ≡ false
+        → is_at_rest sc (phases_in m.past) t (tasked m t) ≡ true
+    by_frame None g h = rests sc m t (ap is_some g) (begun_all _ h)
+    by_frame (Some f) g h =
+        absurd (not_both (is_some (next_kind sc m t)) (opened_next sc m t (s.tasks t task) (ap is_some g)) e)
+
+-- each of some tasks is at rest
+pub all_rest : (sc : Scenario) (m : Machine) (ts : List ℕ)
+    → AllByRecursion (λ t. is_at_rest sc (phases_in m.past) t (tasked m t) ≡ true) ts
+    → list_all (λ t. is_at_rest sc (phases_in m.past) t (tasked m t)) ts ≡ true
+all_rest sc m [] h = refl
+all_rest sc m (t ∷ ts) h = both _ _ h.0 (all_rest sc m ts h.1)
+  where
+    both : (a b : Bool) → a ≡ true → b ≡ true → (a && b) ≡ true
+    both a b e g = grind arith
+
+-- where no task is ready, each is at rest
+pub none_ready : (sc : Scenario) (m : Machine) → Stands sc m → (ts : List ℕ)
+    → AllByRecursion (λ t. is_task sc t ≡ true) ts
+    → ready sc m ts ≡ [] → AllByRecursion (λ t. is_at_rest sc (phases_in m.past) t (tasked m t) ≡ true) ts
+none_ready sc m s [] h e = tt
+none_ready sc m s (t ∷ ts) h e =
+    cases_bool (is_some (next_kind sc m t))
+    (AllByRecursion (λ t. is_at_rest sc (phases_in m.past) t (tasked m t) ≡ true) (t ∷ ts))
+    (λ here. let g : t ∷ ready sc m ts ≡ [] = rw here at e in cc)
+    (λ none. (none_next_rests sc m t s h.0 none, none_ready sc m s ts h.1 (rw none at e)))
 
 -- a phase can end
-pub phase_some : (sc : Scenario) (m : Machine) → is_empty (ready sc m (numbers (length sc.flags))) ≡ true → has_ended sc m
-    ≡ false → is_some (phase_event sc m) ≡ true
+pub phase_some : (sc : Scenario) (m : Machine) → all_at_rest sc m ≡ true → has_ended sc m ≡ false
+    → is_some (phase_event sc m) ≡ true
 unfolding phase_event
 phase_some sc m e over = rw (e, more (nat_lt (phases_in m.past) (length sc.phases)) over) refl
   where
@@ -131,8 +164,8 @@ turn_some sc wants n m limited s over = by_open (lowest_open m (numbers (length 
             (phase_limited sc sc.phases (phases_in m.past) limited.lines) g in
             event_some sc (wants n) t m s task (waiting_next sc m t s task g)
         by_line None g =
-            phase_some sc m (none_are_ready sc m (numbers (length sc.flags))
-            (all_numbers (λ t. is_some (next_kind sc m t) ≡ false) (length sc.flags)
+            phase_some sc m (all_rest sc m (numbers (length sc.flags))
+            (all_numbers (λ t. is_at_rest sc (phases_in m.past) t (tasked m t) ≡ true) (length sc.flags)
             (λ t a b. resting sc m t s (task_of sc t a b)
             (number_of_all (λ u. is_some (tasked m u).frame ≡ false) (length sc.flags)
             (lowest_none m (numbers (length sc.flags)) e) t a b) g))) over
@@ -183,7 +216,9 @@ all_at P (x ∷ xs) (suc i) h l = all_at P xs i h.1 (omega arith)
 pub seed_some : (sc : Scenario) (wants : ℕ → Bool) (n s : ℕ) (m : Machine) → Stands sc m → has_ended sc m ≡ false
     → (ts : List ℕ) → ready sc m (numbers (length sc.flags)) ≡ ts → AllByRecursion (IsReady sc m) ts
     → is_some (happens sc m (move_of wants n (picked ts s))) ≡ true
-seed_some sc wants n s m stands over [] e h = phase_some sc m (ap is_empty e) over
+seed_some sc wants n s m stands over [] e h = phase_some sc m
+    (all_rest sc m (numbers (length sc.flags)) (none_ready sc m stands (numbers (length sc.flags)) (all_tasks sc) e))
+    over
 seed_some sc wants n s m stands over (t ∷ ts) e h =
     let r : IsReady sc m (get_or (t ∷ ts) (drawn s % length (t ∷ ts)) 0) = all_at (IsReady sc m) (t ∷ ts)
     (drawn s % length (t ∷ ts)) h (mod-lt (drawn s) (omega arith)) in

@@ -1,16 +1,18 @@
 -- What the store sees where a voucher is given to a task or queued, a reference is given up, or a message is taken.
 use Rattle.std.proofs.Common.{◌≡◌, ℕ, ◌-◌, Bool, List, [], ◌∷◌, ◌++◌, refl, true, false, sym, ap, ◌∙◌, length, map, Some, None, Option}
-use Rattle.std.proofs.lemmas.List.{length-map, map-append, set-set}
-use Rattle.std.specs.Prelude.{if◌then◌else◌, ◌==◌, nat_lt}
+use Rattle.std.proofs.lemmas.List.{length-map, map-append}
+use Rattle.std.specs.Prelude.{if◌then◌else◌, ◌==◌, nat_lt, not}
 use Rattle.vch_model.specs.Store as store
-use Rattle.vch_model.specs.Store.{Store, Member, nobody, member, set_member, given, gives_name}
-use Rattle.vch_model.specs.After.{queued, let_go, taken_first}
+use Rattle.vch_model.specs.declared.lists.Scenario.{Scenario}
+use Rattle.vch_model.specs.Store.{Store, Member, member, set_member, given, gives_name, limit_of}
+use Rattle.vch_model.specs.After.{appended, let_go, gone, lost, taken_first}
 use Rattle.vch_machine.specs.State.{Handles, Living, Named, Message, Tasked, Machine, tasked, with_tasked, seen, valued, named_of, message_of, member_of}
-use Rattle.vch_machine.specs.Beginning.{enqueued}
-use Rattle.vch_machine.specs.Naming.{name_of, name_for, one_less, with_name}
+use Rattle.vch_machine.specs.Beginning.{enqueued, is_full}
+use Rattle.vch_machine.specs.Naming.{name_of, name_for, one_less, without_name, lowest, with_name}
 use Rattle.vch_legal.specs.Facts.{Different}
 use Rattle.vch_legal.proofs.SeenNames.{LiveAll, AllLive, name_same, given_same}
 use Rattle.vch_legal.proofs.SeenTasks.{member_seen, seen_task}
+use Rattle.vch_base.proofs.CallerLemmas.{set_twice}
 
 -- the name that a voucher gets
 pub name_seen : (live : List Living) (x : Tasked) (v : Handles) → Different live → AllLive live x.names
@@ -76,26 +78,48 @@ seen_less m t name =
     ∙ ap (λ (x : Member). set_member (seen m) t (record x { names = store.one_less x.names name }))
     (sym (member_seen m t)))
 
--- room in a queue
-pub room_seen : (m : Machine) (to : ℕ) → nat_lt (length (member (seen m) to).queue) 5
-    ≡ nat_lt (length (tasked m to).queue) 5
-room_seen m to = ap (λ (x : Member). nat_lt (length x.queue) 5) (member_seen m to)
-    ∙ ap (λ n. nat_lt n 5) (length-map (tasked m to).queue (message_of m.live))
+-- a name is given up with all its references
+without_seen : (live : List Living) (names : List Named) (name : ℕ) → map (named_of live) (without_name names name)
+    ≡ store.without_name (map (named_of live) names) name
+without_seen live [] name = refl
+without_seen live (n ∷ names) name = by_test (n.name == name) (without_seen live names name)
+  where
+    by_test : (b : Bool) → map (named_of live) (without_name names name)
+        ≡ store.without_name (map (named_of live) names) name
+        → map (named_of live) (if b then names else n ∷ without_name names name)
+        ≡ (if b then map (named_of live) names else named_of live n ∷
+        store.without_name (map (named_of live) names) name)
+    by_test true i = refl
+    by_test false i = ap (λ xs. named_of live n ∷ xs) i
+
+pub seen_gone : (m : Machine) (t name : ℕ) → seen
+    (with_tasked m t (record (tasked m t) { names = without_name (tasked m t).names name })) ≡ gone (seen m) t name
+seen_gone m t name =
+    seen_task m t (record (tasked m t) { names = without_name (tasked m t).names name })
+    ∙ (ap (λ names. set_member (seen m) t (record (member_of m.live (tasked m t)) { names = names }))
+    (without_seen m.live (tasked m t).names name)
+    ∙ ap (λ (x : Member). set_member (seen m) t (record x { names = store.without_name x.names name }))
+    (sym (member_seen m t)))
+
+-- the lowest name is the same
+pub lowest_seen : (live : List Living) (names : List Named) → store.lowest (map (named_of live) names) ≡ lowest names
+lowest_seen live [] = refl
+lowest_seen live (n ∷ names) = ap (λ o. Some (store.lower n.name o)) (lowest_seen live names)
+
+-- a queue is full
+pub full_seen : (sc : Scenario) (m : Machine) (to : ℕ) → store.is_full sc (seen m) to ≡ is_full sc m to
+full_seen sc m to = ap (λ (x : Member). not (nat_lt (length x.queue) (limit_of sc to))) (member_seen m to)
+    ∙ ap (λ n. not (nat_lt n (limit_of sc to))) (length-map (tasked m to).queue (message_of m.live))
 
 -- a message is queued
-pub seen_queued : (m : Machine) (to : ℕ) (q : Message) → nat_lt (length (tasked m to).queue) 5 ≡ true
-    → seen (enqueued m to q) ≡ queued (seen m) to (message_of m.live q)
-seen_queued m to q room =
+pub seen_queued : (m : Machine) (to : ℕ) (q : Message) → seen (enqueued m to q)
+    ≡ appended (seen m) to (message_of m.live q)
+seen_queued m to q =
     seen_task m to (record (tasked m to) { queue = (tasked m to).queue ++ q ∷ [] })
     ∙ (ap (λ queue. set_member (seen m) to (record (member_of m.live (tasked m to)) { queue = queue }))
     (map-append (message_of m.live) (tasked m to).queue (q ∷ []))
-    ∙ (ap (λ (x : Member). set_member (seen m) to (record x { queue = x.queue ++ message_of m.live q ∷ [] }))
-    (sym (member_seen m to))
-    ∙ sym (if_true (set_member (seen m) to (record (member (seen m) to)
-    { queue = (member (seen m) to).queue ++ message_of m.live q ∷ [] })) (seen m) (room_seen m to ∙ room))))
-  where
-    if_true : {A : Type 0} {b : Bool} (x y : A) → b ≡ true → (if b then x else y) ≡ x
-    if_true x y e = rw e refl
+    ∙ ap (λ (x : Member). set_member (seen m) to (record x { queue = x.queue ++ message_of m.live q ∷ [] }))
+    (sym (member_seen m to)))
 
 -- the first message is taken
 pub seen_taken : (m : Machine) (t : ℕ) (queue : List Message)
@@ -106,6 +130,13 @@ seen_taken m t queue =
     ∙ ap (λ (x : Member). set_member (seen m) t (record x { queue = map (message_of m.live) queue }))
     (sym (member_seen m t))
 
+-- a message is thrown away
+pub seen_lost : (m : Machine) (t : ℕ) (q : Message) (queue : List Message) → (tasked m t).queue ≡ q ∷ queue
+    → seen (with_tasked m t (record (tasked m t) { queue = queue })) ≡ lost (seen m) t (member (seen m) t).queue
+seen_lost m t q queue e =
+    seen_taken m t queue ∙ sym (ap (λ (x : Member). lost (seen m) t x.queue) (member_seen m t)
+    ∙ ap (λ xs. lost (seen m) t (map (message_of m.live) xs)) e)
+
 -- a task that is replaced twice
 pub replaced : (m : Machine) (t : ℕ) (x y : Tasked) → with_tasked (with_tasked m t x) t y ≡ with_tasked m t y
-replaced m t x y = ap (λ tasks. record m { tasks = tasks }) (set-set m.tasks (t - 1) x y)
+replaced m t x y = ap (λ tasks. record m { tasks = tasks }) (set_twice m.tasks t x y)

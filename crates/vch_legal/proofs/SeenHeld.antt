@@ -1,5 +1,5 @@
 -- A value is held in the sequential store exactly where its handle is held by a name or a message.
-use Rattle.std.proofs.Common.{◌≡◌, ℕ, Bool, List, [], ◌∷◌, refl, true, false, ◌&&◌, ◌||◌, arith, sym, ap, ◌∙◌, subst, map, Some, None, Option}
+use Rattle.std.proofs.Common.{◌≡◌, ℕ, Bool, List, [], ◌∷◌, refl, true, false, ◌||◌, arith, sym, ap, ◌∙◌, subst, map, Some, None, Option}
 use Rattle.std.specs.Prelude.{◌==◌}
 use Rattle.std.specs.List.{list_any}
 use Rattle.std.proofs.lemmas.Grind.{common_steps}
@@ -7,22 +7,13 @@ use Rattle.vch_base.specs.declared.key.Key.{Key}
 use Rattle.vch_base.specs.declared.key.Key.TheVariants as keys
 use Rattle.vch_base.specs.declared.value.Value.{Value}
 use Rattle.vch_base.specs.declared.value.Value.TheVariants as values
-use Rattle.vch_model.specs.Voucher as voucher
-use Rattle.vch_model.specs.Voucher.{Voucher, equal_options}
+use Rattle.vch_model.specs.Voucher.{equal_options}
 use Rattle.vch_base.specs.Values.{equal_lists, equal_values}
 use Rattle.vch_model.specs.Store.{has_value, message_has, is_held_at}
-use Rattle.vch_machine.specs.State.{Handles, of_key, Place, Living, Named, Message, Tasked, Machine, living_at, handle_of, value_of, value_at, valued, valued_option, named_of, message_of, member_of, seen, is_handle, has_place, option_has, frame_holds, task_holds, is_held}
+use Rattle.vch_base.specs.Keyed.{of_key}
+use Rattle.vch_machine.specs.State.{Handles, Place, Living, Named, Message, Tasked, Machine, living_at, handle_of, value_of, value_at, valued, valued_option, named_of, message_of, member_of, seen, is_handle, has_place, option_has, frame_holds, task_holds, is_held}
 use Rattle.vch_legal.specs.Facts.{Different}
-use Rattle.vch_legal.proofs.EventSpots.{cases_bool}
-
-both_left : (a b : Bool) → (a && b) ≡ true → a ≡ true
-both_left a b e = grind arith
-
-both_right : (a b : Bool) → (a && b) ≡ true → b ≡ true
-both_right a b e = grind arith
-
-number_eq : (a b : ℕ) → (a == b) ≡ true → a ≡ b
-number_eq a b e = grind arith
+use Rattle.vch_legal.proofs.Choices.{cases_bool, not_true, number_eq, eq_refl, and_left, and_right}
 
 lists_refl : (xs : List ℕ) → equal_lists xs xs ≡ true
 lists_refl [] = refl
@@ -33,8 +24,8 @@ lists_eq [] [] e = refl
 lists_eq [] (y ∷ ys) e = cc
 lists_eq (x ∷ xs) [] e = cc
 lists_eq (x ∷ xs) (y ∷ ys) e =
-    let a : x ≡ y = number_eq x y (both_left (x == y) (equal_lists xs ys) e) in
-    let b : xs ≡ ys = lists_eq xs ys (both_right (x == y) (equal_lists xs ys) e) in cc
+    let a : x ≡ y = number_eq x y (and_left (x == y) (equal_lists xs ys) e) in
+    let b : xs ≡ ys = lists_eq xs ys (and_right (x == y) (equal_lists xs ys) e) in cc
 
 pub values_refl : (x : Value) → equal_values x x ≡ true
 values_refl (values.User a) = lists_refl a
@@ -49,8 +40,8 @@ values_eq (values.Chain a) (values.Chain b) e = ap values.Chain (lists_eq a b e)
 values_eq values.Default values.Default e = refl
 values_eq (values.Task a) (values.Task b) e = ap values.Task (number_eq a b e)
 values_eq (values.Account a b) (values.Account c d) e =
-    let x : a ≡ c = number_eq a c (both_left (a == c) (b == d) e) in let y : b
-    ≡ d = number_eq b d (both_right (a == c) (b == d) e) in cc
+    let x : a ≡ c = number_eq a c (and_left (a == c) (b == d) e) in let y : b
+    ≡ d = number_eq b d (and_right (a == c) (b == d) e) in cc
 values_eq (values.User a) (values.Chain b) e = cc
 values_eq (values.User a) values.Default e = cc
 values_eq (values.User a) (values.Task b) e = cc
@@ -71,13 +62,6 @@ values_eq (values.Account a d) (values.User b) e = cc
 values_eq (values.Account a d) (values.Chain b) e = cc
 values_eq (values.Account a d) values.Default e = cc
 values_eq (values.Account a d) (values.Task b) e = cc
-
-eq_refl : (n : ℕ) → (n == n) ≡ true
-eq_refl n = grind (arith, common_steps)
-
-pub not_true : (b : Bool) → (b ≡ true → ⊥) → b ≡ false
-not_true true f = absurd (f refl)
-not_true false f = refl
 
 one_handle : (x : Option ℕ) (g h : ℕ) → x ≡ Some g → x ≡ Some h → g ≡ h
 one_handle x g h p q = cc
@@ -121,11 +105,12 @@ pub option_value : (live : List Living) (k : Key) (x : Option ℕ) (h : ℕ) (a 
 option_value live k None h a d e = refl
 option_value live k (Some g) h a d e = handle_value live k g h a d e
 
-pub value_at_key : (live : List Living) (k : Key) (v : Handles) → voucher.value_at k (valued live v)
+pub value_at_key : (live : List Living) (k : Key) (v : Handles) → of_key k (valued live v)
     ≡ value_at live k (of_key k v)
 value_at_key live keys.Importance v = refl
 value_at_key live keys.Bank v = refl
 value_at_key live keys.User v = refl
+value_at_key live keys.Test v = refl
 
 pub voucher_value : (live : List Living) (k : Key) (h : ℕ) (a : Living) (v : Handles) → Different live
     → living_at live (record { key = k; handle = h }) ≡ Some a

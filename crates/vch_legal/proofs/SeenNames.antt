@@ -1,33 +1,34 @@
 -- Names of handles and names of vouchers are found alike.
-use Rattle.std.proofs.Common.{◌≡◌, ℕ, ◌+◌, Bool, List, [], ◌∷◌, refl, true, false, ◌&&◌, arith, ap, map, Some, None, Option}
+use Rattle.std.proofs.Common.{◌≡◌, ℕ, ◌+◌, Bool, List, [], ◌∷◌, refl, true, false, ap, ◌∙◌, map, Some, None, Option}
 use Rattle.std.specs.Prelude.{if◌then◌else◌, ◌==◌}
-use Rattle.vch_base.specs.declared.key.Key.TheVariants as keys
-use Rattle.vch_model.specs.Voucher.{equal_vouchers}
+use Rattle.std.specs.List.{list_all}
+use Rattle.vch_base.specs.declared.key.Key.{Key}
+use Rattle.vch_base.specs.Keyed.{of_key}
+use Rattle.vch_base.specs.Keys.{every_key}
+use Rattle.vch_model.specs.Voucher.{equal_options, equal_vouchers}
 use Rattle.vch_model.specs.Store as store
 use Rattle.std.proofs.lemmas.List.{map-append}
-use Rattle.vch_machine.specs.State.{Handles, Living, Named, Tasked, valued, named_of, member_of}
+use Rattle.vch_machine.specs.State.{Handles, Living, Named, Tasked, value_at, valued, named_of, member_of}
 use Rattle.vch_machine.specs.Naming.{same_handles, name_of, one_more, with_name}
 use Rattle.vch_legal.specs.Facts.{Different}
 use Rattle.vch_legal.proofs.Forming.{LiveAt, same_values}
+use Rattle.vch_legal.proofs.SeenHeld.{value_at_key}
 
 -- each handle of a voucher is live
-pub record LiveAll (live : List Living) (v : Handles) : Type 0 where
-  pub importance : LiveAt live keys.Importance v.importance
-  pub bank : LiveAt live keys.Bank v.bank
-  pub user : LiveAt live keys.User v.user
+abbrev pub LiveAll : List Living → Handles → Type 0
+LiveAll live v = (k : Key) → LiveAt live k (of_key k v)
 
-three : (a b c d e f : Bool) → a ≡ d → b ≡ e → c ≡ f → (a && b && c) ≡ (d && (e && f))
-three a b c d e f x y z = rw (x, y, z) (assoc d e f)
-  where
-    assoc : (a b c : Bool) → (a && b && c) ≡ (a && (b && c))
-    assoc a b c = grind arith
+-- lists of which each element passes alike
+pub all_alike : {X : Type 0} (p q : X → Bool) (xs : List X) → ((x : X) → p x ≡ q x) → list_all p xs ≡ list_all q xs
+all_alike p q [] h = refl
+all_alike p q (x ∷ xs) h = let i : list_all p xs ≡ list_all q xs = all_alike p q xs h in rw (h x, i) refl
 
 pub same_vouchers : (live : List Living) (a b : Handles) → Different live → LiveAll live a → LiveAll live b
     → equal_vouchers (valued live a) (valued live b) ≡ same_handles a b
-same_vouchers live a b d x y =
-    three _ _ _ _ _ _ (same_values live keys.Importance a.importance b.importance d x.importance y.importance)
-    (same_values live keys.Bank a.bank b.bank d x.bank y.bank)
-    (same_values live keys.User a.user b.user d x.user y.user)
+same_vouchers live a b d x y = all_alike _ _ every_key (λ k.
+    ap (λ o. equal_options o (of_key k (valued live b))) (value_at_key live k a)
+    ∙ (ap (λ o. equal_options (value_at live k (of_key k a)) o) (value_at_key live k b)
+    ∙ same_values live k (of_key k a) (of_key k b) d (x k) (y k)))
 
 abbrev pub AllLive : List Living → List Named → Type 0
 AllLive live [] = Unit {0}

@@ -5,7 +5,7 @@ use Rattle.std.specs.Prelude.{nat_lt}
 use Rattle.std.specs.List.{flat_map}
 use Rattle.vch_base.specs.declared.key.Key.{Key}
 use Rattle.vch_base.specs.declared.key.Key.TheVariants as keys
-use Rattle.vch_base.specs.Keys.{number_of, key_of}
+use Rattle.vch_base.specs.Keys.{number_of, key_numbered}
 use Rattle.vch_model.specs.Store as store
 use Rattle.vch_model.specs.Store.{Alive, is_held, is_held_at}
 use Rattle.vch_model.specs.After.{without_made}
@@ -25,10 +25,11 @@ Numbered live = (q : Place) (a : Living) → living_at live q ≡ Some a → nat
 abbrev machine_held : Machine → Place → Bool
 machine_held m q = states.is_held m q
 
-pub key_number : (k : Key) → key_of (number_of k) ≡ Some k
+pub key_number : (k : Key) → key_numbered (number_of k) ≡ Some k
 key_number keys.Importance = refl
 key_number keys.Bank = refl
 key_number keys.User = refl
+key_number keys.Test = refl
 
 -- a Released entry may follow
 pub released_legal : (m : Machine) (q : Place) (a : Living) → Different m.live → Numbered m.live → living_at m.live q

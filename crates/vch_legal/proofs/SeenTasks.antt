@@ -1,17 +1,17 @@
 -- What the store sees of the tasks where one of them is replaced.
-use Rattle.std.proofs.Common.{◌≡◌, ℕ, ◌-◌, ◌<◌, Bool, List, [], ◌∷◌, refl, false, ◌||◌, arith, ap, length, map, get_or, Option}
-use Rattle.std.proofs.Math.ListN.{get_or-map}
-use Rattle.std.proofs.Math.Seq.{map-set_same}
-use Rattle.std.proofs.lemmas.List.{map-set, get_or-set_same}
-use Rattle.std.specs.List.{list_any, flat_map}
+use Rattle.std.proofs.Common.{◌≡◌, ℕ, List, [], ◌∷◌, refl, sym, ap, ◌∙◌, map, Some, None, Option}
+use Rattle.std.specs.List.{flat_map}
+use Rattle.vch_base.proofs.CallerLemmas.{own_item}
 use Rattle.vch_model.specs.Store as store
 use Rattle.vch_machine.specs.State.{Living, Claim, Frame, Tasked, Machine, idle, tasked, with_tasked, alive_of, member_of, seen}
 use Rattle.vch_machine.specs.Frames.{with_frame}
 use Rattle.vch_machine.specs.Making.{on_task, on_claims}
+use Rattle.vch_legal.proofs.TaskItems.{at_map, map_set, map_same, differs_in}
+use Rattle.vch_legal.proofs.TaskLists.{IsAmong}
 
 -- the task that the store sees
 pub member_seen : (m : Machine) (u : ℕ) → store.member (seen m) u ≡ member_of m.live (tasked m u)
-member_seen m u = get_or-map (member_of m.live) m.tasks (u - 1) idle
+member_seen m u = at_map (member_of m.live) m.tasks u idle
 
 abbrev pub store_with : List store.Member → List store.Alive → store.Store
 store_with tasks live = record { tasks = tasks; live = live }
@@ -20,13 +20,13 @@ store_with tasks live = record { tasks = tasks; live = live }
 pub seen_task : (m : Machine) (t : ℕ) (x : Tasked) → seen (with_tasked m t x)
     ≡ store.set_member (seen m) t (member_of m.live x)
 seen_task m t x = ap (λ tasks. store_with tasks (flat_map alive_of m.live))
-    (map-set (member_of m.live) m.tasks (t - 1) x)
+    (map_set (member_of m.live) m.tasks t x)
 
 -- a task is replaced by one that the store sees as the same
 pub seen_same : (m : Machine) (t : ℕ) (x : Tasked) → member_of m.live x ≡ member_of m.live (tasked m t)
     → seen (with_tasked m t x) ≡ seen m
 seen_same m t x e = ap (λ tasks. store_with tasks (flat_map alive_of m.live))
-    (map-set_same (member_of m.live) m.tasks (t - 1) x idle e)
+    (map_same (member_of m.live) m.tasks t x idle e)
 
 pub seen_frame : (m : Machine) (t : ℕ) (g : Option Frame) → seen (with_frame m t g) ≡ seen m
 seen_frame m t g = seen_same m t (record (tasked m t) { frame = g }) refl
@@ -40,21 +40,15 @@ pub seen_claims : (m : Machine) (g : Claim → Claim) → seen (on_claims g m) �
 seen_claims m g = ap (λ tasks. store_with tasks (flat_map alive_of m.live)) (claims_map m.live g m.tasks)
 
 -- the task that was replaced
-pub own_task : (m : Machine) (t : ℕ) (x : Tasked) → t - 1 < length m.tasks → tasked (with_tasked m t x) t ≡ x
-own_task m t x l = get_or-set_same m.tasks (t - 1) x idle l
+pub own_task : (m : Machine) (t : ℕ) (x : Tasked) → IsAmong t m.tasks → tasked (with_tasked m t x) t ≡ x
+own_task m t x l = own_item m.tasks t x idle l.0 l.1
 
 pub claims_task : (m : Machine) (g : Claim → Claim) (u : ℕ) → tasked (on_claims g m) u ≡ on_task g (tasked m u)
-claims_task m g u = get_or-map (on_task g) m.tasks (u - 1) idle
+claims_task m g u = at_map (on_task g) m.tasks u idle
 
--- what no task does, the task of a number does not
-pub none_at : (p : Tasked → Bool) (xs : List Tasked) (i : ℕ) → p idle ≡ false → list_any p xs ≡ false
-    → p (get_or xs i idle) ≡ false
-none_at p [] i e h = e
-none_at p (x ∷ xs) ℕ.zero e h = left_false (p x) (list_any p xs) h
+-- a task with a frame is one of the list
+pub frame_in : (m : Machine) (t : ℕ) (f : Frame) → (tasked m t).frame ≡ Some f → IsAmong t m.tasks
+frame_in m t f e = differs_in m.tasks t idle (λ same. none (sym (ap (λ (x : Tasked). x.frame) same) ∙ e))
   where
-    left_false : (a b : Bool) → (a || b) ≡ false → a ≡ false
-    left_false a b e = grind arith
-none_at p (x ∷ xs) (ℕ.suc i) e h = none_at p xs i e (right_false (p x) (list_any p xs) h)
-  where
-    right_false : (a b : Bool) → (a || b) ≡ false → b ≡ false
-    right_false a b e = grind arith
+    none : None ≡ Some f → ⊥
+    none h = cc

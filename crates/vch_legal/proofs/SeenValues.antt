@@ -4,7 +4,7 @@ use Rattle.std.specs.Prelude.{◌==◌, nat_lt, is_some}
 use Rattle.std.specs.List.{list_any, list_all, flat_map}
 use Rattle.vch_base.specs.declared.key.Key.{Key}
 use Rattle.vch_base.specs.declared.key.Key.TheVariants as keys
-use Rattle.vch_base.specs.Keys.{number_of}
+use Rattle.vch_base.specs.Keys.{number_of, every_key}
 use Rattle.vch_base.specs.declared.value.Value.{Value}
 use Rattle.vch_base.specs.declared.value.Value.TheVariants as values
 use Rattle.vch_base.specs.Values.{Belongs, equal_values, is_default}
@@ -12,12 +12,13 @@ use Rattle.vch_model.specs.declared.lists.Scenario.{Scenario}
 use Rattle.vch_model.specs.Store.{Alive, is_alive, is_live, option_live, all_live}
 use Rattle.vch_model.specs.After.{without_made}
 use Rattle.vch_model.specs.Legal.{find_made}
-use Rattle.vch_machine.specs.State.{Handles, of_key, Place, same_place, Living, Machine, living_at, without_place, handle_of, value_of, value_at, valued, alive_of, seen, default_living, default_place}
+use Rattle.vch_base.specs.Keyed.{of_key}
+use Rattle.vch_machine.specs.State.{Handles, Place, same_place, Living, Machine, living_at, without_place, handle_of, value_of, value_at, valued, alive_of, seen, default_living, default_place}
 use Rattle.vch_legal.specs.Facts.{Fits, EachOnce, bit, times}
 use Rattle.vch_legal.proofs.Places.{same_place_eq, same_place_refl, same_number}
-use Rattle.vch_legal.proofs.EventSpots.{cases_bool}
+use Rattle.vch_legal.proofs.Choices.{cases_bool, not_true, some_eq}
 use Rattle.vch_legal.proofs.Forming.{LiveAt}
-use Rattle.vch_legal.proofs.SeenHeld.{values_refl, not_true}
+use Rattle.vch_legal.proofs.SeenHeld.{values_refl, value_at_key}
 use Rattle.vch_legal.proofs.SeenNames.{LiveAll}
 use Rattle.vch_legal.proofs.SeenReleased.{Numbered}
 
@@ -59,9 +60,6 @@ found_behind l live p a h e =
     cases_bool (same_place l.place p) (living_at (l ∷ live) p ≡ Some a)
     (λ here. let n : living_at live p ≡ None = none_found live p (none_more l live p h here) in cc)
     (λ other. rw other e)
-
-some_eq : {A : Type 0} (a b : A) → Some a ≡ Some b → a ≡ b
-some_eq a b e = cc
 
 pub found_place : (live : List Living) (p : Place) (a : Living) → living_at live p ≡ Some a → a.place ≡ p
 found_place [] p a e = cc
@@ -249,14 +247,12 @@ option_lives sc m k (Some h) f l = of_living (living_at m.live (record { key = k
 -- a voucher of live handles has live values
 pub voucher_lives : (sc : Scenario) (m : Machine) (v : Handles) → Fits sc m → LiveAll m.live v
     → all_live (seen m) (valued m.live v) ≡ true
-voucher_lives sc m v f l =
-    let a : option_live (seen m) 2 (value_at m.live keys.Importance v.importance)
-    ≡ true = option_lives sc m keys.Importance v.importance f l.importance in
-    let b : option_live (seen m) 3 (value_at m.live keys.Bank v.bank)
-    ≡ true = option_lives sc m keys.Bank v.bank f l.bank in
-    let c : option_live (seen m) 7 (value_at m.live keys.User v.user)
-    ≡ true = option_lives sc m keys.User v.user f l.user in
-    rw (a, b, c) refl
+voucher_lives sc m v f l = every_passes _ every_key (λ k.
+    ap (option_live (seen m) (number_of k)) (value_at_key m.live k v) ∙ option_lives sc m k (of_key k v) f (l k))
+  where
+    every_passes : {X : Type 0} (p : X → Bool) (xs : List X) → ((x : X) → p x ≡ true) → list_all p xs ≡ true
+    every_passes p [] h = refl
+    every_passes p (x ∷ xs) h = let i : list_all p xs ≡ true = every_passes p xs h in rw (h x, i) refl
 
 unlisted : (live : List Living) (k : Key) (x : Value) → handle_of live k x ≡ None
     → list_any (is_alive (number_of k) x) (flat_map alive_of live) ≡ false
@@ -281,6 +277,7 @@ default_found sc m k (values.Task t) f b e = refl
 default_found sc m k (values.Account holder merchant) f b e = refl
 default_found sc m keys.Importance values.Default f b e = absurd b
 default_found sc m keys.User values.Default f b e = absurd b
+default_found sc m keys.Test values.Default f b e = absurd b
 default_found sc m keys.Bank values.Default f b e = let g : handle_of m.live keys.Bank values.Default
     ≡ Some 0 = f.different default_place default_living f.default_live in cc
 

@@ -7,9 +7,9 @@ use Rattle.vch_model.specs.declared.call.Call.{Call}
 use Rattle.vch_model.specs.declared.call.Call.TheVariants as calls
 use Rattle.vch_model.specs.Legal.{asks}
 use Rattle.vch_base.specs.declared.kind.Kind.TheVariants as kinds
-use Rattle.vch_machine.specs.State.{is_empty, Handles, Place, Named, Claim, Frame}
+use Rattle.vch_machine.specs.State.{is_empty, Place, Named, Claim, Frame}
 use Rattle.vch_base.specs.declared.kind.Kind.{Kind}
-use Rattle.vch_machine.specs.Next.{claim_next, first_next, known_name, call_next, formed_next, lets_next, unclaimed_next, frame_next}
+use Rattle.vch_machine.specs.Next.{claim_next, first_next, known_name, call_next, unanswered_next, lets_next, unclaimed_next, frame_next}
 
 -- by the kind of the event
 abbrev pub Shape : Frame → Kind → Type 0
@@ -35,47 +35,50 @@ shape_some f k kind e s = let g : k ≡ kind = cc in subst (λ (x : Kind). Shape
 abbrev Idle : Frame → Type 0
 Idle f = (f.receipt ≡ None) × (f.claim ≡ None) × (f.lets ≡ [])
 
-shape_first : (f : Frame) (names : List Named) (first : First) → Idle f → Shape f (first_next names first)
-shape_first f names (One r rest) i = shape_if f (asks (known_name names) r) kinds.Make kinds.Work i i
-shape_first f names First.End i = i
-shape_first f names (First.HeaderCut left) i = i
-shape_first f names (First.ContentCut wanted left) i = i
+shape_first : (f : Frame) (version : ℕ) (names : List Named) (first : First) → Idle f
+    → Shape f (first_next version names first)
+shape_first f version names (One r rest) i = shape_if f (asks version (known_name names) r) kinds.Make kinds.Work i i
+shape_first f version names First.End i = i
+shape_first f version names (First.HeaderCut left) i = i
+shape_first f version names (First.ContentCut wanted left) i = i
 
 shape_keys : (f : Frame) (b : Bool) (kind : Kind) → Idle f → (if b then Some kinds.Place else Some kinds.Make)
     ≡ Some kind → Shape f kind
 shape_keys f true kind i e = shape_some f kinds.Place kind e i
 shape_keys f false kind i e = shape_some f kinds.Make kind e i
 
-shape_call : (f : Frame) (names : List Named) (place : ℕ) (ks : List Key) (call : Option Call) (kind : Kind) → Idle f
-    → call_next names place ks call ≡ Some kind → Shape f kind
-shape_call f names place ks None kind i e = cc
-shape_call f names place ks (Some (calls.Create bytes)) kind i e =
-    shape_some f (first_next names (first_of (drop place bytes))) kind e
-    (shape_first f names (first_of (drop place bytes)) i)
-shape_call f names place ks (Some call) kind i e = shape_keys f (is_empty ks) kind i e
+shape_call : (f : Frame) (version : ℕ) (names : List Named) (place : ℕ) (ks : List Key) (call : Option Call) (kind : Kind) → Idle f
+    → call_next version names place ks call ≡ Some kind → Shape f kind
+shape_call f version names place ks None kind i e = cc
+shape_call f version names place ks (Some (calls.Create bytes)) kind i e =
+    shape_some f (first_next version names (first_of (drop place bytes))) kind e
+    (shape_first f version names (first_of (drop place bytes)) i)
+shape_call f version names place ks (Some calls.Exit) kind i e = shape_some f kinds.Work kind e i
+shape_call f version names place ks (Some call) kind i e = shape_keys f (is_empty ks) kind i e
 
-shape_formed : (f : Frame) (names : List Named) (call : Option Call) (v : Option Handles) (kind : Kind) → Idle f
-    → formed_next names f call v ≡ Some kind → Shape f kind
-shape_formed f names call None kind i e = cc
-shape_formed f names call (Some v) kind i e = shape_call f names f.at_byte f.keys call kind i e
+shape_unanswered : (f : Frame) (version : ℕ) (names : List Named) (call : Option Call) (b : Bool) (kind : Kind) → Idle f
+    → unanswered_next version names f call b ≡ Some kind → Shape f kind
+shape_unanswered f version names call true kind i e = cc
+shape_unanswered f version names call false kind i e = shape_call f version names f.at_byte f.keys call kind i e
 
-shape_lets : (f : Frame) (names : List Named) (call : Option Call) (lets : List Place) (kind : Kind)
-    → f.receipt ≡ None → f.claim ≡ None → f.lets ≡ lets → lets_next names f call lets ≡ Some kind → Shape f kind
-shape_lets f names call (p ∷ rest) kind r c l e = shape_some f kinds.LetGo kind e (r, c)
-shape_lets f names call [] kind r c l e = shape_formed f names call f.forming kind (r, c, l) e
+shape_lets : (f : Frame) (version : ℕ) (names : List Named) (call : Option Call) (lets : List Place) (kind : Kind)
+    → f.receipt ≡ None → f.claim ≡ None → f.lets ≡ lets → lets_next version names f call lets ≡ Some kind → Shape f kind
+shape_lets f version names call (p ∷ rest) kind r c l e = shape_some f kinds.LetGo kind e (r, c)
+shape_lets f version names call [] kind r c l e = shape_unanswered f version names call f.answered kind (r, c, l) e
 
-shape_claim : (f : Frame) (names : List Named) (call : Option Call) (o : Option Claim) (kind : Kind)
-    → f.receipt ≡ None → f.claim ≡ o → unclaimed_next names f call o ≡ Some kind → Shape f kind
-shape_claim f names call (Some c) kind r g e = shape_some f (claim_next c) kind e
+shape_claim : (f : Frame) (version : ℕ) (names : List Named) (call : Option Call) (o : Option Claim) (kind : Kind)
+    → f.receipt ≡ None → f.claim ≡ o → unclaimed_next version names f call o ≡ Some kind → Shape f kind
+shape_claim f version names call (Some c) kind r g e = shape_some f (claim_next c) kind e
     (by_claim f c (is_some c.answer) g refl)
-shape_claim f names call None kind r g e = shape_lets f names call f.lets kind r g refl e
+shape_claim f version names call None kind r g e = shape_lets f version names call f.lets kind r g refl e
 
-shape_receipt : (f : Frame) (names : List Named) (call : Option Call) (o : Option Place) (kind : Kind) → f.receipt ≡ o
-    → frame_next names f call o ≡ Some kind → Shape f kind
-shape_receipt f names call (Some q) kind r e = shape_some f kinds.Refer kind e (q, r)
-shape_receipt f names call None kind r e = shape_claim f names call f.claim kind r refl e
+shape_receipt : (f : Frame) (version : ℕ) (names : List Named) (call : Option Call) (o : Option Place) (kind : Kind)
+    → f.receipt ≡ o
+    → frame_next version names f call o ≡ Some kind → Shape f kind
+shape_receipt f version names call (Some q) kind r e = shape_some f kinds.Refer kind e (q, r)
+shape_receipt f version names call None kind r e = shape_claim f version names call f.claim kind r refl e
 
 -- what is known of a frame where an event of this kind is next
-pub shape_of : (f : Frame) (names : List Named) (call : Option Call) (kind : Kind)
-    → frame_next names f call f.receipt ≡ Some kind → Shape f kind
-shape_of f names call kind e = shape_receipt f names call f.receipt kind refl e
+pub shape_of : (f : Frame) (version : ℕ) (names : List Named) (call : Option Call) (kind : Kind)
+    → frame_next version names f call f.receipt ≡ Some kind → Shape f kind
+shape_of f version names call kind e = shape_receipt f version names call f.receipt kind refl e

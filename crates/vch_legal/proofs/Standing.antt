@@ -1,18 +1,18 @@
 -- An event that does to its own task what it should leaves a state in which all stands.
-use Rattle.std.proofs.Common.{◌≡◌, ◌≢◌, ℕ, ◌+◌, ◌-◌, ◌≤◌, Bool, List, ◌∷◌, refl, true, false, ◌&&◌, arith, sym, subst, length, Some, None, Option}
+use Rattle.std.proofs.Common.{◌≡◌, ◌≢◌, ℕ, ◌+◌, ◌≤◌, Bool, List, ◌∷◌, refl, true, false, arith, sym, subst, length, Some, None, Option}
 use Rattle.std.specs.Prelude.{if◌then◌else◌, ◌==◌, nat_lt, is_some}
 use Rattle.vch_model.specs.declared.entry.Entry.{Entry}
 use Rattle.vch_model.specs.declared.entry.Entry.TheVariants as entries
 use Rattle.vch_model.specs.declared.lists.Scenario.{Scenario}
 use Rattle.vch_model.specs.Lines.{calls_in, phases_in, is_task, lines_until, lines_of}
-use Rattle.vch_machine.specs.State.{Frame, Tasked, Machine, tasked, member_of}
+use Rattle.vch_machine.specs.State.{Frame, Tasked, Machine, idle, tasked, member_of}
 use Rattle.vch_machine.specs.Next.{task_next}
 use Rattle.vch_machine.specs.Events.{event, event_of}
-use Rattle.vch_machine.proofs.Others.{leaves_of}
+use Rattle.vch_machine.proofs.CallerLemmas.{leaves_of}
 use Rattle.vch_legal.specs.Facts.{Fits, bit}
 use Rattle.vch_legal.specs.Tie.{IsForming, is_answering, IsOpen, TaskStands, Stands}
-use Rattle.vch_legal.proofs.EventSpots.{cases_bool}
-use Rattle.vch_legal.proofs.SeenTasks.{none_at}
+use Rattle.vch_legal.proofs.Choices.{cases_bool, number_eq}
+use Rattle.vch_legal.proofs.TaskItems.{none_at}
 use Rattle.vch_legal.proofs.PhaseLines.{all_lines}
 use Rattle.vch_legal.proofs.Follows.{Follows, follows_store, follows_legal, follows_phases}
 use Rattle.vch_legal.proofs.Lifts.{Lives, other_stands}
@@ -30,6 +30,8 @@ more_calls : (e : Entry) (past : List Entry) (t : ℕ) → calls_in past t ≤ c
 more_calls (entries.Call u n word reply) past t = omega arith
 more_calls (entries.Made k x) past t = omega arith
 more_calls (entries.Released e) past t = omega arith
+more_calls (entries.Gone u name) past t = omega arith
+more_calls (entries.Lost u) past t = omega arith
 more_calls entries.Phase past t = omega arith
 
 follows_more : (sc : Scenario) (t : ℕ) (m n : Machine) → Follows sc t m n → calls_in m.past t ≤ calls_in n.past t
@@ -51,14 +53,6 @@ own_stands sc t m n step s =
       open_frame = step.open_frame;
     }
 
--- two tasks have two places
-pub places_apart : (sc : Scenario) (t u : ℕ) → is_task sc t ≡ true → is_task sc u ≡ true → u ≢ t → u - 1 ≢ t - 1
-places_apart sc t u a b apart = by_numbers t u (length sc.flags + 1) a b apart
-  where
-    by_numbers : (t u n : ℕ) → (nat_lt 0 t && nat_lt t n) ≡ true → (nat_lt 0 u && nat_lt u n) ≡ true → u ≢ t
-        → u - 1 ≢ t - 1
-    by_numbers t u n a b apart = λ e. apart (grind arith)
-
 -- without a frame, and with no call left, nothing happens
 nothing_left : (sc : Scenario) (want : Bool) (m : Machine) (t : ℕ) → (tasked m t).frame ≡ None
     → nat_lt (tasked m t).begun (lines_until sc (phases_in m.past + 1) t) ≡ false → event sc want m t ≡ None
@@ -76,7 +70,7 @@ ended_event : (sc : Scenario) (want : Bool) (m n : Machine) (t : ℕ) → Stands
     → nat_lt (phases_in m.past) (length sc.phases) ≡ false → event sc want m t ≡ Some n → ⊥
 ended_event sc want m n t s task over e =
     let f : (tasked m t).frame ≡ None = no_frame (tasked m t).frame
-    (none_at (λ (x : Tasked). is_some x.frame) m.tasks (t - 1) refl (s.rest over)) in
+    (none_at (λ (x : Tasked). is_some x.frame) m.tasks t idle refl (s.rest over)) in
     let past : length sc.phases ≤ phases_in m.past = at_end (phases_in m.past) (length sc.phases) over in
     let a : lines_until sc (phases_in m.past + 1) t ≡ length (lines_of sc t) = all_lines sc t (phases_in m.past + 1)
     (omega arith) in
@@ -105,19 +99,15 @@ stands_after sc want t m n s task e fits step = record {
   fits = fits;
   same_store = follows_store sc t m n step.follows s.same_store;
   tasks = λ u k. cases_bool (u == t) (TaskStands sc n.past n.live u (tasked n u))
-      (λ same. subst (λ i. TaskStands sc n.past n.live i (tasked n i)) (sym (number u t same))
+      (λ same. subst (λ i. TaskStands sc n.past n.live i (tasked n i)) (sym (number_eq u t same))
       (own_stands sc t m n step (s.tasks t task)))
       (λ other. let apart : u ≢ t = λ i. differ u t other i in
-      let places : u - 1 ≢ t - 1 = places_apart sc t u task k apart in
-      other_stands sc t u m n apart places (leaves_of sc want t u m n places e) step.follows step.lives (s.tasks u k));
+      other_stands sc t u m n apart (leaves_of sc want t u m n apart e) step.follows step.lives (s.tasks u k));
   phases = subst (λ p. p ≤ length sc.phases) (sym (follows_phases sc t m n step.follows)) s.phases;
   rest = λ over. absurd (ended_event sc want m n t s task
       (subst (λ p. nat_lt p (length sc.phases) ≡ false) (follows_phases sc t m n step.follows) over) e);
   legal = follows_legal sc t m n step.follows s.same_store s.legal;
 }
   where
-    number : (a b : ℕ) → (a == b) ≡ true → a ≡ b
-    number a b e = grind arith
-
     differ : (a b : ℕ) → (a == b) ≡ false → a ≡ b → ⊥
     differ a b e f = grind arith

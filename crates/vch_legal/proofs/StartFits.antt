@@ -7,6 +7,7 @@ use Rattle.vch_base.specs.declared.flags.Flags.{Flags}
 use Rattle.vch_machine.specs.State.{Place, same_place, Claim, Frame, Tasked, Machine, idle, start, default_living, default_place, living_at, task_holds, frame_expects, frame_claims, is_held}
 use Rattle.vch_machine.specs.Leaving.{is_fixed, is_fixed_value}
 use Rattle.vch_legal.specs.Facts.{spot, spot_fits}
+use Rattle.vch_legal.proofs.Choices.{neither_left, neither_right}
 use Rattle.vch_legal.proofs.SpotSteps.{one}
 use Rattle.vch_legal.proofs.FrameSpots.{one_eq}
 use Rattle.vch_legal.proofs.EventSpots.{AllFit, fits_of}
@@ -41,16 +42,10 @@ start_fits sc p =
 no_frames_expect : (p : Place) (xs : List Tasked) → list_any (λ (x : Tasked). is_some x.frame) xs ≡ false
     → list_any (λ (x : Tasked). frame_expects x.frame p) xs ≡ false
 no_frames_expect p [] e = refl
-no_frames_expect p (x ∷ xs) e = both (of_frame x.frame (left_false (is_some x.frame)
+no_frames_expect p (x ∷ xs) e = both (of_frame x.frame (neither_left (is_some x.frame)
     (list_any (λ (x : Tasked). is_some x.frame) xs) e)) (no_frames_expect p xs
-    (right_false (is_some x.frame) (list_any (λ (x : Tasked). is_some x.frame) xs) e))
+    (neither_right (is_some x.frame) (list_any (λ (x : Tasked). is_some x.frame) xs) e))
   where
-    left_false : (a b : Bool) → (a || b) ≡ false → a ≡ false
-    left_false a b e = grind arith
-
-    right_false : (a b : Bool) → (a || b) ≡ false → b ≡ false
-    right_false a b e = grind arith
-
     both : {a b : Bool} → a ≡ false → b ≡ false → (a || b) ≡ false
     both g h = rw (g, h)
 
@@ -61,16 +56,10 @@ no_frames_expect p (x ∷ xs) e = both (of_frame x.frame (left_false (is_some x.
 no_frames_claim : (p : Place) (xs : List Tasked) → list_any (λ (x : Tasked). is_some x.frame) xs ≡ false
     → flat_map (λ (x : Tasked). frame_claims x.frame p) xs ≡ []
 no_frames_claim p [] e = refl
-no_frames_claim p (x ∷ xs) e = both (of_frame x.frame (left_false (is_some x.frame)
+no_frames_claim p (x ∷ xs) e = both (of_frame x.frame (neither_left (is_some x.frame)
     (list_any (λ (x : Tasked). is_some x.frame) xs) e)) (no_frames_claim p xs
-    (right_false (is_some x.frame) (list_any (λ (x : Tasked). is_some x.frame) xs) e))
+    (neither_right (is_some x.frame) (list_any (λ (x : Tasked). is_some x.frame) xs) e))
   where
-    left_false : (a b : Bool) → (a || b) ≡ false → a ≡ false
-    left_false a b e = grind arith
-
-    right_false : (a b : Bool) → (a || b) ≡ false → b ≡ false
-    right_false a b e = grind arith
-
     both : {a b : List Claim} → a ≡ [] → b ≡ [] → a ++ b ≡ []
     both g h = rw (g, h)
 

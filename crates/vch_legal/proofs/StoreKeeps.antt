@@ -1,7 +1,6 @@
 -- Facts of the sequential store after every legal history: its live values belong to their keys, name tasks of the
 -- scenario and are different, and what a name or a message has is live.
-use Rattle.std.proofs.Common.{◌≡◌, ℕ, zero, suc, ◌-◌, Bool, List, [], ◌∷◌, ◌++◌, refl, true, false, ◌||◌, arith, sym, ◌∙◌, subst, length, get_or, Some, None, Option, Ok, Err, Result, inl, inr}
-use Rattle.std.proofs.Math.ListN.{set}
+use Rattle.std.proofs.Common.{◌≡◌, ℕ, ◌-◌, Bool, List, [], ◌∷◌, ◌++◌, refl, true, false, ◌||◌, arith, sym, ◌∙◌, subst, Some, None, Option, Ok, Err, Result, inl, inr}
 use Rattle.std.proofs.lemmas.List.Folds.{list_any-append}
 use Rattle.std.specs.Prelude.{◌⊎◌, if◌then◌else◌, ◌==◌, nat_lt, ℤ}
 use Rattle.std.specs.List.{list_any}
@@ -9,11 +8,12 @@ use Rattle.vch_base.specs.declared.key.Key.{Key}
 use Rattle.vch_base.specs.declared.value.Value.{Value}
 use Rattle.vch_model.specs.declared.lists.Scenario.{Scenario}
 use Rattle.vch_model.specs.Voucher.{Voucher}
-use Rattle.vch_model.specs.Store.{Store, Member, Named, Message, nobody, member, set_member, name_of, one_more, one_less, with_name, given, has_value, message_has, is_held_at}
+use Rattle.vch_model.specs.Store.{Store, Member, Named, Message, nobody, member, set_member, name_of, one_more, one_less, with_name, without_name, is_full, given, has_value, message_has, is_held_at}
 use Rattle.vch_model.specs.Transfer.{before, after}
-use Rattle.vch_model.specs.After.{placed, queued, let_go, sent, taken_first, received}
+use Rattle.vch_model.specs.After.{placed, appended, queued, let_go, gone, lost, sent, taken_first, received}
 use Rattle.vch_model.specs.Legal.{voucher_made, voucher_received}
-use Rattle.vch_legal.proofs.EventSpots.{cases_bool}
+use Rattle.vch_legal.proofs.Choices.{cases_bool, or_case, or_left, or_right}
+use Rattle.vch_legal.proofs.TaskItems.{any_set_task}
 
 -- what a name or a message of a task has
 abbrev pub member_has : Key → Value → Member → Bool
@@ -31,16 +31,6 @@ pub record Gives (v : Option Voucher) (s o : Store) : Type 0 where
   pub live : o.live ≡ s.live
   pub held : (k : Key) (x : Value) → is_held_at o k x ≡ true → (is_held_at s k x ≡ true) ⊎ (message_has k x v ≡ true)
 
-pub or_case : (a b : Bool) → (a || b) ≡ true → (a ≡ true) ⊎ (b ≡ true)
-or_case true b e = inl refl
-or_case false b e = inr e
-
-pub or_left : (a b : Bool) → a ≡ true → (a || b) ≡ true
-or_left a b e = grind arith
-
-pub or_right : (a b : Bool) → b ≡ true → (a || b) ≡ true
-or_right a b e = grind arith
-
 pub gives_self : (v : Option Voucher) (s : Store) → Gives v s s
 gives_self v s = record { live = refl; held = λ k x h. inl h }
 
@@ -53,29 +43,12 @@ gives_then v s o p a b = record {
   ];
 }
 
--- one element of a list is replaced
-set_case : (p : Member → Bool) (xs : List Member) (i : ℕ) (y : Member) (N : Type 0) → p nobody ≡ false
-    → (p y ≡ true → (p (get_or xs i nobody) ≡ true) ⊎ N) → list_any p (set xs i y) ≡ true → (list_any p xs ≡ true) ⊎ N
-set_case p [] i y N none f h = inl h
-set_case p (x ∷ xs) zero y N none f h = elim (or_case (p y) (list_any p xs) h) as
-    (λ _. (list_any p (x ∷ xs) ≡ true) ⊎ N) [
-      | inl here ↦ elim (f here) as (λ _. (list_any p (x ∷ xs) ≡ true) ⊎ N)
-          [ inl old ↦ inl (or_left (p x) (list_any p xs) old) | inr new ↦ inr new ]
-      | inr later ↦ inl (or_right (p x) (list_any p xs) later)
-    ]
-set_case p (x ∷ xs) (suc i) y N none f h = elim (or_case (p x) (list_any p (set xs i y)) h) as
-    (λ _. (list_any p (x ∷ xs) ≡ true) ⊎ N) [
-      | inl here ↦ inl (or_left (p x) (list_any p xs) here)
-      | inr later ↦ elim (set_case p xs i y N none f later) as (λ _. (list_any p (x ∷ xs) ≡ true) ⊎ N)
-          [ inl old ↦ inl (or_right (p x) (list_any p xs) old) | inr new ↦ inr new ]
-    ]
-
 gives_set : (v : Option Voucher) (s : Store) (t : ℕ) (m : Member)
     → ((k : Key) (x : Value) → member_has k x m ≡ true → (member_has k x (member s t) ≡ true) ⊎
     (message_has k x v ≡ true)) → Gives v s (set_member s t m)
 gives_set v s t m f = record {
   live = refl;
-  held = λ k x h. set_case (member_has k x) s.tasks (t - 1) m
+  held = λ k x h. any_set_task (member_has k x) s.tasks t m nobody
       (message_has k x v ≡ true) refl (f k x) h;
 }
 
@@ -147,12 +120,10 @@ let_go_gives v s t name =
           | inr queue ↦ or_right (names_have k x (member s t).names) (queue_has k x (member s t).queue) queue
         ]
 
-pub queued_gives : (v : Option Voucher) (s : Store) (to : ℕ) (q : Message)
+pub appended_gives : (v : Option Voucher) (s : Store) (to : ℕ) (q : Message)
     → ((k : Key) (x : Value) → message_has k x q.voucher ≡ true → message_has k x v ≡ true)
-    → Gives v s (queued s to q)
-queued_gives v s to q f =
-    gives_if v s _ s (nat_lt (length (member s to).queue) 5)
-    (gives_set v s to (record (member s to) { queue = (member s to).queue ++ q ∷ [] }) more) (gives_self v s)
+    → Gives v s (appended s to q)
+appended_gives v s to q f = gives_set v s to (record (member s to) { queue = (member s to).queue ++ q ∷ [] }) more
   where
     more : (k : Key) (x : Value) → (names_have k x (member s to).names || queue_has k x
         ((member s to).queue ++ q ∷ [])) ≡ true → (member_has k x (member s to) ≡ true) ⊎ (message_has k x v ≡ true)
@@ -166,6 +137,42 @@ queued_gives v s to q f =
                 | inl old ↦ inl (or_right (names_have k x (member s to).names) (queue_has k x (member s to).queue) old)
                 | inr new ↦ inr (f k x (or_drop (message_has k x q.voucher) new))
               ]
+        ]
+
+pub queued_gives : (v : Option Voucher) (sc : Scenario) (s : Store) (to : ℕ) (q : Message)
+    → ((k : Key) (x : Value) → message_has k x q.voucher ≡ true → message_has k x v ≡ true)
+    → Gives v s (queued sc s to q)
+queued_gives v sc s to q f =
+    gives_if v s s (appended s to q) (is_full sc s to) (gives_self v s) (appended_gives v s to q f)
+
+-- what an exit gives up
+
+without_has : (k : Key) (x : Value) (names : List Named) (name : ℕ) → names_have k x (without_name names name) ≡ true
+    → names_have k x names ≡ true
+without_has k x [] name h = h
+without_has k x (n ∷ names) name h = by_test (n.name == name) (without_has k x names name) h
+  where
+    by_test : (b : Bool) → (names_have k x (without_name names name) ≡ true → names_have k x names ≡ true)
+        → names_have k x (if b then names else n ∷ without_name names name) ≡ true
+        → names_have k x (n ∷ names) ≡ true
+    by_test true later g = or_right (has_value k x n.voucher) (names_have k x names) g
+    by_test false later g = elim (or_case (has_value k x n.voucher) (names_have k x (without_name names name)) g) as
+        (λ _. names_have k x (n ∷ names) ≡ true) [
+          | inl here ↦ or_left (has_value k x n.voucher) (names_have k x names) here
+          | inr there ↦ or_right (has_value k x n.voucher) (names_have k x names) (later there)
+        ]
+
+pub gone_gives : (v : Option Voucher) (s : Store) (t name : ℕ) → Gives v s (gone s t name)
+gone_gives v s t name =
+    gives_set v s t (record (member s t) { names = without_name (member s t).names name }) (λ k x h. inl (fewer k x h))
+  where
+    fewer : (k : Key) (x : Value) → (names_have k x (without_name (member s t).names name) || queue_has k x
+        (member s t).queue) ≡ true → member_has k x (member s t) ≡ true
+    fewer k x h = elim (or_case (names_have k x (without_name (member s t).names name))
+        (queue_has k x (member s t).queue) h) as (λ _. member_has k x (member s t) ≡ true) [
+          | inl names ↦ or_left (names_have k x (member s t).names) (queue_has k x (member s t).queue)
+              (without_has k x (member s t).names name names)
+          | inr queue ↦ or_right (names_have k x (member s t).names) (queue_has k x (member s t).queue) queue
         ]
 
 -- a call
@@ -189,6 +196,11 @@ taken_gives v s t q queue e = gives_set v s t (record (member s t) { queue = que
               (or_right (message_has k x q.voucher) (queue_has k x queue) later))
         ]
 
+pub lost_gives : (v : Option Voucher) (s : Store) (t : ℕ) (queue : List Message) → (member s t).queue ≡ queue
+    → Gives v s (lost s t queue)
+lost_gives v s t [] e = gives_self v s
+lost_gives v s t (q ∷ queue) e = taken_gives v s t q queue e
+
 pub received_gives : (sc : Scenario) (s : Store) (t : ℕ) (queue : List Message) → (member s t).queue ≡ queue
     → Gives (voucher_received sc t queue) s (received sc s t queue)
 received_gives sc s t [] e = gives_self None s
@@ -200,18 +212,17 @@ received_gives sc s t (q ∷ queue) e = by_voucher q.voucher
     by_voucher (Some w) = gives_then (Some (after sc t w)) s (taken_first s t queue) _
         (taken_gives (Some (after sc t w)) s t q queue e) (given_gives (taken_first s t queue) t (after sc t w))
 
-pub sent_gives : (s : Store) (t to : ℕ) (moving : Bool) (name id : ℕ) (v : Voucher)
-    → Gives (Some (before t v)) s (sent s t to moving name id (Some v))
-sent_gives s t to moving name id v =
-    gives_if g s _ s (nat_lt (length (member s to).queue) 5)
+pub sent_gives : (sc : Scenario) (s : Store) (t to : ℕ) (moving : Bool) (name id : ℕ) (v : Voucher)
+    → Gives (Some (before t v)) s (sent sc s t to moving name id (Some v))
+sent_gives sc s t to moving name id v =
+    gives_if g s s _ (is_full sc s to) (gives_self g s)
     (gives_if g s _ mid moving (gives_then g s mid _ queued_ (let_go_gives g mid t name)) queued_)
-    (gives_self g s)
   where
     g : Option Voucher
     g = Some (before t v)
 
     mid : Store
-    mid = queued s to (record { sender = t; id = id; voucher = Some (before t v) })
+    mid = appended s to (record { sender = t; id = id; voucher = Some (before t v) })
 
     queued_ : Gives g s mid
-    queued_ = queued_gives g s to (record { sender = t; id = id; voucher = Some (before t v) }) (λ k x h. h)
+    queued_ = appended_gives g s to (record { sender = t; id = id; voucher = Some (before t v) }) (λ k x h. h)

@@ -7,25 +7,29 @@ use Rattle.vch_base.specs.declared.key.Key.TheVariants as keys
 use Rattle.vch_base.specs.declared.value.Value.{Value}
 use Rattle.vch_base.specs.declared.value.Value.TheVariants as values
 use Rattle.vch_base.specs.Values.{is_default}
+use Rattle.vch_base.specs.Keyed.{of_key}
 use Rattle.vch_model.specs.declared.call.Call.{Call}
 use Rattle.vch_model.specs.declared.lists.Scenario.{Scenario}
 use Rattle.vch_model.specs.Lines.{is_task}
-use Rattle.vch_machine.specs.State.{Handles, of_key, Place, same_place, Living, Claim, Frame, Tally, Machine, tasked, living_at, handle_of, is_place, is_held, is_expected, claims_on, claim_at, frame_holds, default_place, default_living}
+use Rattle.vch_machine.specs.State.{Handles, Place, same_place, Living, Claim, Frame, Tally, Machine, tasked, living_at, handle_of, is_place, is_held, is_expected, claims_on, claim_at, frame_holds, default_place, default_living}
 use Rattle.vch_machine.specs.Frames.{with_frame, tallied}
 use Rattle.vch_machine.specs.Leaving.{is_fixed, more_claims, claim_if, do_let_go, do_recheck, released, with_answer, one_ask, again}
 use Rattle.vch_machine.specs.Making.{given_receipt, minted, made_at, do_refer, fresh_handle}
-use Rattle.vch_legal.specs.Facts.{Fits, Spot, spot, spot_fits, burden, total, bit, times, IsCounted, OptionFits, ValueFits, EachOnce, Different}
+use Rattle.vch_legal.specs.Facts.{Fits, Spot, spot, spot_fits, burden, total, bit, times, IsCounted, ValueFits, EachOnce, Different}
+use Rattle.vch_legal.proofs.Choices.{cases_bool}
 use Rattle.vch_legal.proofs.SpotSteps.{one, fresh, raced_now}
-use Rattle.vch_legal.proofs.Places.{same_place_eq}
+use Rattle.vch_legal.proofs.Places.{Settled, same_place_eq}
 use Rattle.vch_legal.proofs.FrameSpots.{kept_named, others_expect, claims_before, claims_behind}
-use Rattle.vch_legal.proofs.EventSpots.{cases_bool, fits_of, claimed_spot, claimed_before, claimed_after, claimed_other, again_place, some_if, let_go_here, let_go_was, let_go_other, gone_spot, left_held, left_claims}
+use Rattle.vch_legal.proofs.EventSpots.{fits_of, claimed_spot, claimed_before, claimed_after, claimed_other, again_place, some_if, let_go_here, let_go_was, let_go_other, gone_spot, left_held, left_claims}
 use Rattle.vch_legal.proofs.AskSpots.{refused_here, answered_other, agreed_other, answered, spot_live}
 use Rattle.vch_legal.proofs.ReferSpots.{refer_here, refer_other, after_expects}
-use Rattle.vch_legal.proofs.MakeSpots.{given_here, given_other, append_here, append_other, fresh_dead}
+use Rattle.vch_legal.proofs.MakeSpots.{given_here, given_other, fresh_dead}
+use Rattle.vch_legal.proofs.FoundValues.{append_here, append_other}
 use Rattle.vch_legal.proofs.Burdens.{made_burden, new_burden, refer_burden, let_go_burden, agreed_burden, refused_burden, recheck_burden, total_less, total_append, total_more, total_lost, total_without}
 use Rattle.vch_legal.proofs.ValuesMade.{asked_value}
 use Rattle.vch_legal.proofs.LiveKeeps.{Claimed, claimed_live}
-use Rattle.vch_legal.proofs.Cases.{Cases, Plain}
+use Rattle.vch_legal.proofs.PlainEvents.{Plain}
+use Rattle.vch_legal.proofs.Cases.{Cases, fits_at, still_going}
 
 abbrev pub load : Machine → Place → ℕ
 load m p = burden (spot m p)
@@ -102,6 +106,7 @@ not_default sc m keys.Bank values.Default d e good absent = let g : handle_of m.
     ≡ Some 0 = d default_place default_living e in cc
 not_default sc m keys.Importance values.Default d e good absent = absurd good.belongs
 not_default sc m keys.User values.Default d e good absent = absurd good.belongs
+not_default sc m keys.Test values.Default d e good absent = absurd good.belongs
 
 minted_counted : (m : Machine) (t : ℕ) (f : Frame) (k : Key) (x : Value) → EachOnce m
     → spot_fits (spot m (record { key = k; handle = fresh_handle (of_key k m.pools) })) ≡ true → is_default x ≡ false
@@ -184,25 +189,27 @@ once_most m q once =
     let b : bit (nat_lt q.handle (of_key q.key m.pools).used) ≤ 1 =
     bit_most (nat_lt q.handle (of_key q.key m.pools).used) in omega arith
 
-refer_counted : (m : Machine) (t : ℕ) (f : Frame) (v : Handles) (call : Call) (q : Place)
-    → ((p : Place) → spot_fits (spot m p) ≡ true) → EachOnce m → (tasked m t).frame ≡ Some f → f.forming ≡ Some v
+refer_counted : (version : ℕ) (m : Machine) (t : ℕ) (f : Frame) (v : Handles) (call : Call) (q : Place)
+    → ((p : Place) → spot_fits (spot m p) ≡ true) → EachOnce m → (tasked m t).frame ≡ Some f → f.answered ≡ false
+    → f.forming ≡ Some v
     → f.claim ≡ None → f.receipt ≡ Some q
-    → IsCounted m → IsCounted (do_refer m t f v call q)
-refer_counted m t f v call q h once e forming claim receipt c =
+    → IsCounted m → IsCounted (do_refer version m t f v call q)
+refer_counted version m t f v call q h once e going forming claim receipt c =
     one_refer_more m.tally.asks m.tally.refers (total (load m) m.live) (total (load n) m.live)
     (times (λ (l : Living). same_place l.place q) m.live) c (total_more (load n) (load m) q m.live others here)
     (once_most m q once)
   where
     n : Machine
-    n = do_refer m t f v call q
+    n = do_refer version m t f v call q
 
     here : load n q ≤ load m q + 1
-    here = more_by (spot n q) _ (spot m q) (refer_here m t f v call q e forming claim)
+    here = more_by (spot n q) _ (spot m q) (refer_here version m t f v call q e going forming claim)
         (refer_burden (is_some (living_at m.live q)) (is_fixed m q) (is_held m q) (is_expected m q)
-        (after_expects m t f v call q) (claims_on m q) (h q))
+        (after_expects version m t f v call q) (claims_on m q) (h q))
 
     others : (p : Place) → same_place q p ≡ false → load n p ≤ load m p
-    others p other = same_load (spot n p) (spot m p) (refer_other m t f v call q p e forming claim receipt other)
+    others p other = same_load (spot n p) (spot m p)
+        (refer_other version m t f v call q p e going forming claim receipt other)
 
     one_refer_more : (asks refers before after k : ℕ) → asks + before ≤ refers → after ≤ before + k → k ≤ 1
         → asks + after ≤ refers + 1
@@ -211,13 +218,14 @@ refer_counted m t f v call q h once e forming claim receipt c =
 -- LetGo
 
 let_go_counted : (m : Machine) (t : ℕ) (f : Frame) (q : Place) (rest : List Place)
-    → ((p : Place) → spot_fits (spot m p) ≡ true) → (tasked m t).frame ≡ Some f → f.lets ≡ q ∷ rest → f.claim ≡ None
+    → ((p : Place) → spot_fits (spot m p) ≡ true) → (tasked m t).frame ≡ Some f → Settled f → f.lets ≡ q ∷ rest
+    → f.claim ≡ None
     → IsCounted m → IsCounted (do_let_go m t f q rest)
-let_go_counted m t f q rest h e lets claim c =
+let_go_counted m t f q rest h e settled lets claim c =
     kept_counted m (do_let_go m t f q rest) refl (same_asks (claim_if
     (with_frame m t (Some (record f { lets = rest }))) q))
     (same_refers (claim_if (with_frame m t (Some (record f { lets = rest }))) q))
-    (at_each m (do_let_go m t f q rest) q here (λ p other. let_go_other m t f q p rest e lets claim other)) c
+    (at_each m (do_let_go m t f q rest) q here (λ p other. let_go_other m t f q p rest e settled lets claim other)) c
   where
     same_asks : (d : Option Claim) → (more_claims d m.tally).asks ≡ m.tally.asks
     same_asks None = refl
@@ -230,7 +238,7 @@ let_go_counted m t f q rest h e lets claim c =
     here : load (do_let_go m t f q rest) q ≤ load m q
     here = load_by (spot (do_let_go m t f q rest) q) (spot m q)
         (gone_spot m t f q rest (left_held m t f q rest) (left_claims m t f q rest)) (gone_spot m t f q rest true [])
-        (let_go_here m t f q rest e claim) (let_go_was m t f q rest e lets claim)
+        (let_go_here m t f q rest e settled claim) (let_go_was m t f q rest e lets claim)
         (let_go_burden q (is_some (living_at m.live q)) (is_fixed m q) (left_held m t f q rest)
         (is_place f.receipt q || others_expect m t q) (claims_before m t q) (claims_behind m t q)
         (fits_of (gone_spot m t f q rest true []) (spot m q) (sym (let_go_was m t f q rest e lets claim)) (h q)))
@@ -299,11 +307,11 @@ asked_counted m t f c false h e claim a claimed k = agreed_counted m t f c h e c
 -- Recheck
 
 recheck_counted : (m : Machine) (t : ℕ) (f : Frame) (c : Claim) → ((p : Place) → spot_fits (spot m p) ≡ true)
-    → (tasked m t).frame ≡ Some f → f.claim ≡ Some c → is_some c.answer ≡ true
+    → (tasked m t).frame ≡ Some f → Settled f → f.claim ≡ Some c → is_some c.answer ≡ true
     → IsCounted m → IsCounted (do_recheck m t f c)
-recheck_counted m t f c h e claim a k =
+recheck_counted m t f c h e settled claim a k =
     kept_counted m (do_recheck m t f c) refl refl refl
-    (at_each m (do_recheck m t f c) c.place here (λ p other. claimed_other m t f c (again m c) p e claim
+    (at_each m (do_recheck m t f c) c.place here (λ p other. claimed_other m t f c (again m c) p e settled claim
     (again_place m c) other)) k
   where
     was : spot m c.place ≡ claimed_spot m t f c.place (c ∷ [])
@@ -322,7 +330,7 @@ recheck_counted m t f c h e claim a k =
 
     here : load (do_recheck m t f c) c.place ≤ load m c.place
     here = load_by (spot (do_recheck m t f c) c.place) (spot m c.place) _ (claimed_spot m t f c.place (c ∷ []))
-        (claimed_after m t f c (again m c) e ∙ ap (λ cs. claimed_spot m t f c.place cs) claims) was
+        (claimed_after m t f c (again m c) e settled ∙ ap (λ cs. claimed_spot m t f c.place cs) claims) was
         (recheck_burden c (is_some (living_at m.live c.place)) (is_fixed m c.place)
         (frame_holds (Some f) c.place || kept_named m t c.place)
         (is_place f.receipt c.place || others_expect m t c.place)
@@ -336,10 +344,12 @@ counted_cases sc t m h task = record {
       (handle_of m.live k x) h.spots h.each_once
       (λ none. not_default sc m k x h.different h.default_live
       (asked_value sc m t f v call k x task h.values eq) none) e receipt h.counted;
-  refer = λ f v call q e forming current receipt. refer_counted m t f v call q h.spots h.each_once e forming
-      ((subst OptionFits e (h.frames t)).claim (ap is_some receipt)) receipt h.counted;
-  let_go = λ f q rest e lets receipt claim. let_go_counted m t f q rest h.spots e lets claim h.counted;
+  refer = λ f v call q e forming current receipt. refer_counted sc.version m t f v call q h.spots h.each_once e
+      (still_going f v (fits_at sc t m f h e) forming) forming
+      ((fits_at sc t m f h e).claim (ap is_some receipt)) receipt h.counted;
+  let_go = λ f q rest e lets receipt claim. let_go_counted m t f q rest h.spots e (fits_at sc t m f h e).answered lets
+      claim h.counted;
   ask = λ f c e claim a. asked_counted m t f c c.raced h.spots e claim a
       (claimed_live sc m t f c h e claim a) h.counted;
-  recheck = λ f c e claim a. recheck_counted m t f c h.spots e claim a h.counted;
+  recheck = λ f c e claim a. recheck_counted m t f c h.spots e (fits_at sc t m f h e).answered claim a h.counted;
 }

@@ -1,11 +1,14 @@
 -- The end of a send or a recv changes no spot.
-use Rattle.std.proofs.Common.{◌≡◌, ℕ, zero, suc, ◌-◌, ◌<◌, Bool, List, [], ◌∷◌, ◌++◌, refl, true, false, ◌&&◌, ◌||◌, arith, sym, ap, ◌∙◌, subst, length, get_or, Some, None, Option}
+use Rattle.std.proofs.Common.{◌≡◌, ℕ, zero, suc, Bool, List, [], ◌∷◌, ◌++◌, refl, true, false, ◌||◌, arith, sym, ap, ◌∙◌, subst, get_or, Some, None, Option}
 use Rattle.std.proofs.Math.ListN.{set}
-use Rattle.std.proofs.lemmas.List.{set-get_or}
 use Rattle.std.proofs.lemmas.Grind.{common_steps}
 use Rattle.std.specs.Prelude.{if◌then◌else◌}
-use Rattle.std.specs.List.{list_any, flat_map}
+use Rattle.std.specs.List.{list_any, list_all, flat_map}
 use Rattle.std.proofs.lemmas.List.Folds.{list_any-append}
+use Rattle.vch_base.specs.declared.key.Key.{Key}
+use Rattle.vch_base.specs.Keys.{every_key}
+use Rattle.vch_base.specs.Keyed.{of_key}
+use Rattle.vch_base.specs.Tasks.{at_task, set_task}
 use Rattle.vch_model.specs.declared.call.Call.{Call}
 use Rattle.vch_machine.specs.State.{Handles, Place, same_place, Named, Message, Frame, Tasked, Machine, idle, tasked, with_tasked, has_place, option_has, frame_holds, frame_claims, is_held}
 use Rattle.vch_machine.specs.Beginning.{enqueued}
@@ -13,12 +16,13 @@ use Rattle.vch_machine.specs.Frames.{closed, with_frame}
 use Rattle.vch_machine.specs.Naming.{same_handle, same_handles, name_of, one_less, with_name, option_same, task_knows, is_known, doubled, orphaned, handles_of}
 use Rattle.vch_machine.specs.Placing.{place_recv, place_send, moved_name}
 use Rattle.vch_legal.specs.Facts.{spot}
-use Rattle.vch_legal.proofs.TaskLists.{other_any, any_set}
+use Rattle.vch_legal.proofs.Choices.{or_left, or_right}
+use Rattle.vch_legal.proofs.TaskLists.{IsAmong, other_any, any_set, set_same, same_part}
 use Rattle.vch_legal.proofs.Places.{closed_holds, closed_expects, closed_claims}
 use Rattle.vch_legal.proofs.FrameSpots.{one_eq, others_hold, others_expect, claims_before, claims_behind, kept_named, spot_of, task_in_range}
 use Rattle.vch_legal.proofs.WorkSpots.{lets_hold}
 use Rattle.vch_legal.proofs.PutSpots.{known_to, spot_put, more_any, found_any, doubled_holds, ending}
-use Rattle.vch_legal.proofs.LeaveSpots.{or_left, or_right, known_held, orphan_law, less_any, recv_law, enqueued_any, enqueued_expects}
+use Rattle.vch_legal.proofs.LeaveSpots.{known_held, orphan_law, less_any, recv_law, enqueued_any, enqueued_expects}
 
 abbrev names_any : List Named → Place → Bool
 names_any names p = list_any (λ (n : Named). has_place n.voucher p) names
@@ -49,7 +53,7 @@ with_queue x v (Some name) = refl
 ending_holds : (f : Frame) (a b : List Place) (p : Place) → frame_holds (closed (ending f (a ++ b))) p ≡
     (lets_hold f.lets p || (lets_hold a p || lets_hold b p))
 ending_holds f a b p =
-    closed_holds (ending f (a ++ b)) p
+    closed_holds (ending f (a ++ b)) p (λ _. refl)
     ∙ (list_any-append (λ q. same_place q p) f.lets (a ++ b)
     ∙ ap (λ c. lets_hold f.lets p || c) (list_any-append (λ q. same_place q p) a b))
 
@@ -99,52 +103,49 @@ put_recv_spot m t f v call q queue p e forming first =
         ∙ sym (ap (λ b. ((names_any (tasked m t).names p || queue_any b p) || others_hold m t p) || has_place v p)
         first))))
 
--- what a replaced task has as before
-same_part : {A : Type 0} (g : Tasked → A) (xs : List Tasked) (i j : ℕ) (x : Tasked) → g x ≡ g (get_or xs i idle)
-    → g (get_or (set xs i x) j idle) ≡ g (get_or xs j idle)
-same_part g [] i j x e = refl
-same_part g (y ∷ xs) zero zero x e = e
-same_part g (y ∷ xs) zero (suc j) x e = refl
-same_part g (y ∷ xs) (suc i) zero x e = refl
-same_part g (y ∷ xs) (suc i) (suc j) x e = same_part g xs i j x e
-
-enqueued_claims : (p : Place) (xs : List Tasked) (i : ℕ) (q : List Message)
-    → flat_map (λ (x : Tasked). frame_claims x.frame p) (set xs i (record (get_or xs i idle) { queue = q }))
+enqueued_claims : (p : Place) (xs : List Tasked) (t : ℕ) (q : List Message)
+    → flat_map (λ (x : Tasked). frame_claims x.frame p) (set_task xs t (record (at_task xs t idle) { queue = q }))
     ≡ flat_map (λ (x : Tasked). frame_claims x.frame p) xs
-enqueued_claims p [] i q = refl
-enqueued_claims p (x ∷ xs) zero q = refl
-enqueued_claims p (x ∷ xs) (suc i) q = ap (λ b. frame_claims x.frame p ++ b) (enqueued_claims p xs i q)
+enqueued_claims p xs zero q = refl
+enqueued_claims p xs (suc i) q = from_place xs i
+  where
+    from_place : (xs : List Tasked) (i : ℕ) → flat_map (λ (x : Tasked). frame_claims x.frame p)
+        (set xs i (record (get_or xs i idle) { queue = q })) ≡ flat_map (λ (x : Tasked). frame_claims x.frame p) xs
+    from_place [] i = refl
+    from_place (x ∷ xs) zero = refl
+    from_place (x ∷ xs) (suc i) = ap (λ b. frame_claims x.frame p ++ b) (from_place xs i)
 
 -- a message with a voucher that the machine holds changes no spot
-pub enqueued_spot : (m : Machine) (to : ℕ) (q : Message) (p : Place) → to - 1 < length m.tasks
+pub enqueued_spot : (m : Machine) (to : ℕ) (q : Message) (p : Place) → IsAmong to m.tasks
     → (option_has q.voucher p ≡ true → is_held m p ≡ true) → spot (enqueued m to q) p ≡ spot m p
 enqueued_spot m to q p l h =
     one_eq _ _ _ _ _ _ _ _
-    (enqueued_any p m.tasks (to - 1) q l ∙ absorbed (is_held m p) (option_has q.voucher p) h)
-    (enqueued_expects p m.tasks (to - 1) ((tasked m to).queue ++ q ∷ []))
-    (enqueued_claims p m.tasks (to - 1) ((tasked m to).queue ++ q ∷ []))
+    (enqueued_any p m.tasks to q l ∙ absorbed (is_held m p) (option_has q.voucher p) h)
+    (enqueued_expects p m.tasks to ((tasked m to).queue ++ q ∷ []))
+    (enqueued_claims p m.tasks to ((tasked m to).queue ++ q ∷ []))
   where
     absorbed : (a b : Bool) → (b ≡ true → a ≡ true) → (a || b) ≡ a
     absorbed a true f = let k : a ≡ true = f refl in grind arith
     absorbed a false f = grind arith
 
 handles_refl : (v : Handles) → same_handles v v ≡ true
-handles_refl v = all_true (option_refl v.importance) (option_refl v.bank) (option_refl v.user)
+handles_refl v = each every_key
   where
     option_refl : (a : Option ℕ) → same_handle a a ≡ true
     option_refl None = refl
     option_refl (Some a) = grind (arith, common_steps)
 
-    all_true : {a b c : Bool} → a ≡ true → b ≡ true → c ≡ true → (a && (b && c)) ≡ true
-    all_true x y z = rw (x, y, z)
+    each : (ks : List Key) → list_all (λ k. same_handle (of_key k v) (of_key k v)) ks ≡ true
+    each [] = refl
+    each (k ∷ ks) = rw (option_refl (of_key k v)) (each ks)
 
 -- the voucher of a message that was queued is known
-enqueued_known : (m : Machine) (to : ℕ) (q : Message) (v : Handles) → to - 1 < length m.tasks → q.voucher ≡ Some v
+enqueued_known : (m : Machine) (to : ℕ) (q : Message) (v : Handles) → IsAmong to m.tasks → q.voucher ≡ Some v
     → is_known (enqueued m to q) v ≡ true
 enqueued_known m to q v l e =
-    any_set (task_knows v) m.tasks (to - 1) (record (tasked m to) { queue = (tasked m to).queue ++ q ∷ [] }) l
+    any_set (task_knows v) m.tasks to (record (tasked m to) { queue = (tasked m to).queue ++ q ∷ [] }) l
     ∙ or_left (task_knows v (record (tasked m to) { queue = (tasked m to).queue ++ q ∷ [] }))
-    (other_any (task_knows v) m.tasks (to - 1))
+    (other_any (task_knows v) m.tasks to)
     (or_right (list_any (λ (n : Named). same_handles n.voucher v) (tasked m to).names)
     (list_any (λ (r : Message). option_same r.voucher v) ((tasked m to).queue ++ q ∷ []))
     (list_any-append (λ (r : Message). option_same r.voucher v) (tasked m to).queue (q ∷ [])
@@ -181,7 +182,7 @@ sender_after x moving name = if moving then record x { names = one_less x.names 
 moved_as : (m : Machine) (t : ℕ) (moving : Bool) (name : ℕ) → moved_name m t moving name ≡ with_tasked m t
     (sender_after (tasked m t) moving name)
 moved_as m t true name = refl
-moved_as m t false name = ap (λ xs. record m { tasks = xs }) (sym (set-get_or m.tasks (t - 1) idle))
+moved_as m t false name = ap (λ xs. record m { tasks = xs }) (sym (set_same m.tasks t idle))
 
 sender_law : (x : Tasked) (moving : Bool) (name : ℕ) (p : Place) (o : Bool)
     → (option_has (handles_of x.names name) p || (known_to (sender_after x moving name) p || o)) ≡ (known_to x p || o)
@@ -210,14 +211,14 @@ send_from n t f v moving name known b p e forming d queued =
     (known_to x1 p || others_hold n t p) (known_to (tasked n t) p || others_hold n t p) (has_place v p) b d
     (orphan_law n t x1 w p l ∙ sender_law (tasked n t) moving name p (others_hold n t p))
     (λ h. known_held n t (tasked n t) v p l (subst (λ xs. is_known (record n { tasks = xs }) v ≡ true)
-    (sym (set-get_or n.tasks (t - 1) idle)) queued) h)
+    (sym (set_same n.tasks t idle)) queued) h)
     ∙ sym (ap (λ y. (option_has y p || lets_hold f.lets p) || (known_to (tasked n t) p || others_hold n t p))
     forming)))
     (ap (λ c. c || others_expect n t p) (closed_expects (ending f lets) p))
     (ap (λ c. claims_before n t p ++ (c ++ claims_behind n t p)) (closed_claims (ending f lets) p))
     ∙ sym (spot_of n t f p e)))
   where
-    l : t - 1 < length n.tasks
+    l : IsAmong t n.tasks
     l = task_in_range n t f e
 
     w : Option Handles
@@ -232,12 +233,12 @@ send_from n t f v moving name known b p e forming d queued =
 -- the end of a send
 pub put_send_spot : (m : Machine) (t : ℕ) (f : Frame) (v : Handles) (call : Call) (to : ℕ) (moving : Bool)
     (name id : ℕ) (p : Place) → (tasked m t).frame ≡ Some f → f.forming ≡ Some v
-    → to - 1 < length m.tasks → spot (place_send m t f v call to moving name id) p ≡ spot m p
+    → IsAmong to m.tasks → spot (place_send m t f v call to moving name id) p ≡ spot m p
 put_send_spot m t f v call to moving name id p e forming l =
     ap (λ names. spot (with_frame mid t (closed (ending f (doubled m v ++ orphaned mid (handles_of names name))))) p)
-    (sym (same_part (λ y. y.names) m.tasks (to - 1) (t - 1) _ refl))
+    (sym (same_part (λ y. y.names) m.tasks to t _ idle refl))
     ∙ (send_from n t f v moving name (doubled m v) (is_known m v) p
-    (same_part (λ y. y.frame) m.tasks (to - 1) (t - 1) _ refl ∙ e) forming (doubled_holds m v p)
+    (same_part (λ y. y.frame) m.tasks to t _ idle refl ∙ e) forming (doubled_holds m v p)
     (enqueued_known m to q v l refl)
     ∙ enqueued_spot m to q p l (λ h. ap (λ s. s.held) (spot_of m t f p e) ∙ held h))
   where

@@ -13,7 +13,7 @@ use Rattle.vch_machine.specs.Next.{next_kind, task_next}
 use Rattle.vch_machine.specs.Schedules.{lowest_open, first_waiting}
 use Rattle.vch_legal.specs.Facts.{bit}
 use Rattle.vch_legal.specs.Tie.{IsForming, IsOpen}
-use Rattle.vch_legal.proofs.EventSpots.{cases_bool}
+use Rattle.vch_legal.proofs.Choices.{cases_bool}
 use Rattle.vch_legal.proofs.OwnSteps.{Before}
 use Rattle.vch_legal.proofs.AtRest.{frame_has_next, task_of}
 use Rattle.vch_legal.proofs.PhaseCounts.{of_task}
@@ -135,7 +135,8 @@ waiting_some sc m seen (line ∷ lines) t e =
     let k : bit (line.task == line.task) ≡ 1 = ap bit (own_number line.task) in omega arith))
 
 pub waiting_in : (sc : Scenario) (m : Machine) (seen : List ℕ) (lines : List Line) (t : ℕ)
-    → AllByRecursion (λ l. IsIn (length sc.flags) l) lines → first_waiting sc m seen lines ≡ Some t → is_task sc t
+    → AllByRecursion (λ l. IsIn sc.version (length sc.flags) l) lines → first_waiting sc m seen lines ≡ Some t
+    → is_task sc t
     ≡ true
 waiting_in sc m seen [] t h e = cc
 waiting_in sc m seen (line ∷ lines) t h e =

@@ -2,35 +2,31 @@
 use Rattle.std.proofs.Common.{◌≡◌, ℕ, ◌+◌, ◌≤◌, Bool, List, [], ◌∷◌, ◌++◌, refl, true, false, ◌&&◌, arith, sym, ap, ◌∙◌, subst, length, Some, None}
 use Rattle.std.specs.Prelude.{if◌then◌else◌, ◌==◌, nat_lt}
 use Rattle.vch_base.specs.declared.key.Key.{Key}
-use Rattle.vch_base.specs.declared.key.Key.TheVariants as keys
 use Rattle.vch_base.specs.Keys.{number_of}
+use Rattle.vch_base.specs.Keyed.{Keyed, of_key, with_key}
+use Rattle.vch_base.proofs.CallerLemmas.{with_of}
 use Rattle.vch_base.specs.declared.value.Value.{Value}
 use Rattle.vch_base.specs.Values.{equal_values}
-use Rattle.vch_machine.specs.State.{Keyed, of_key, with_key, Place, same_place, Living, Pool, Machine, living_at, without_place, handle_of, default_place, default_living}
+use Rattle.vch_machine.specs.State.{Place, same_place, Living, Pool, Machine, living_at, without_place, handle_of, default_place, default_living}
 use Rattle.vch_machine.specs.Leaving.{released, more_free}
 use Rattle.vch_machine.specs.Making.{minted, fresh_handle, fewer_free}
 use Rattle.vch_legal.specs.Facts.{EachOnce, Different, bit, times}
+use Rattle.vch_legal.proofs.Choices.{and_left, cases_bool}
 use Rattle.vch_legal.proofs.Places.{same_key, same_place_eq, same_place_refl, same_place_comm}
-use Rattle.vch_legal.proofs.EventSpots.{cases_bool}
 use Rattle.vch_legal.proofs.AskSpots.{without_here, without_other}
 
-pub of_same : {A : Type 0} (k : Key) (a : A) (x : Keyed A) → of_key k (with_key k a x) ≡ a
-of_same keys.Importance a x = refl
-of_same keys.Bank a x = refl
-of_same keys.User a x = refl
-
--- another key, or the same one
 pub of_with : {A : Type 0} (k g : Key) (a : A) (x : Keyed A)
     → of_key g (with_key k a x) ≡ (if number_of k == number_of g then a else of_key g x)
-of_with keys.Importance keys.Importance a x = refl
-of_with keys.Importance keys.Bank a x = refl
-of_with keys.Importance keys.User a x = refl
-of_with keys.Bank keys.Importance a x = refl
-of_with keys.Bank keys.Bank a x = refl
-of_with keys.Bank keys.User a x = refl
-of_with keys.User keys.Importance a x = refl
-of_with keys.User keys.Bank a x = refl
-of_with keys.User keys.User a x = refl
+of_with k g a x = with_of g k a x ∙ ap (λ b. if b then a else of_key g x) (turned k g)
+  where
+    turned : (k g : Key) → (number_of g == number_of k) ≡ (number_of k == number_of g)
+    turned k g = grind arith
+
+pub of_same : {A : Type 0} (k : Key) (a : A) (x : Keyed A) → of_key k (with_key k a x) ≡ a
+of_same k a x = of_with k k a x ∙ ap (λ b. if b then a else of_key k x) (itself k)
+  where
+    itself : (k : Key) → (number_of k == number_of k) ≡ true
+    itself k = grind arith
 
 abbrev at_place : Place → Living → Bool
 at_place p l = same_place l.place p
@@ -169,9 +165,6 @@ found_kept (l ∷ live) q k x h o e =
     (λ here. rw here (found_kept live q k x h o i))
     (λ other. rw (other, fails) (found_kept live q k x h o i)))
   where
-    left_of : (a b : Bool) → (a && b) ≡ true → a ≡ true
-    left_of a b g = grind arith
-
     some_eq : (a b : ℕ) → Some a ≡ Some b → a ≡ b
     some_eq a b g = cc
 
@@ -184,7 +177,7 @@ found_kept (l ∷ live) q k x h o e =
     not_here : (a b : Bool) → a ≡ (number_of l.place.key == number_of k) → (a && b) ≡ true
         → Some l.place.handle ≡ Some h → same_place l.place q ≡ false
     not_here a b f g i =
-        place_eq (record { key = k; handle = h }) l.place (sym (same_key l.place.key k (sym f ∙ left_of a b g)))
+        place_eq (record { key = k; handle = h }) l.place (sym (same_key l.place.key k (sym f ∙ and_left a b g)))
         (sym (some_eq l.place.handle h i)) flipped
 
 pub ask_different : (live : List Living) (q : Place) → Different live → Different (without_place live q)

@@ -5,10 +5,15 @@ use Rattle.std.specs.List.{list_all}
 use Rattle.vch_base.specs.declared.key.Key.{Key}
 use Rattle.vch_base.specs.declared.key.Key.TheVariants as keys
 use Rattle.vch_base.specs.Keys.{key_of}
+use Rattle.vch_base.specs.Keyed.{of_key}
+use Rattle.vch_base.specs.Values.{Belongs}
+use Rattle.vch_base.specs.declared.commands.TheConstants as commands
+use Rattle.vch_base.specs.declared.key.TheConstants.{ALL_KEYS}
+use Rattle.vch_base.specs.declared.limits.TheConstants.{CHAIN_TASKS}
 use Rattle.vch_base.specs.declared.value.Value.{Value}
 use Rattle.vch_base.specs.declared.value.Value.TheVariants as values
 use Rattle.vch_base.specs.declared.flags.Flags.{Flags}
-use Rattle.vch_base.specs.Managers.{sent, received, mapped, bare, own_answer, flags_in}
+use Rattle.vch_base.specs.Managers.{sent, received, mapped, bare, stored, own_answer, flags_in}
 use Rattle.vch_recipe.specs.Recipes.{First, One, first_of}
 use Rattle.vch_recipe.specs.declared.recipe.Recipe.{Recipe}
 use Rattle.vch_model.specs.declared.call.Call.{Call}
@@ -17,9 +22,10 @@ use Rattle.vch_model.specs.declared.lists.Scenario.{Scenario}
 use Rattle.vch_model.specs.Eval.{answer_to}
 use Rattle.vch_model.specs.Lines.{is_task}
 use Rattle.vch_model.specs.Transfer.{received_value, flags_of}
-use Rattle.vch_machine.specs.State.{Handles, Place, Frame, Machine, Living, Named, living_at, value_at, value_of, of_key, tasked}
-use Rattle.vch_machine.specs.Making.{asked_by, asked_first, asked_record, asked_transfer, Asked, head_key, previous_of}
+use Rattle.vch_machine.specs.State.{Handles, Place, Frame, Machine, Living, Named, living_at, value_at, value_of, tasked}
+use Rattle.vch_machine.specs.Making.{asked_by, asked_first, asked_record, asked_transfer, Asked, keys_left, head_key, previous_of}
 use Rattle.vch_legal.specs.Facts.{ValueFits, ValuesFit}
+use Rattle.vch_legal.proofs.Choices.{and_left, and_right}
 
 -- what a manager gives, where it gives a value
 abbrev pub OptionGood : Scenario → Key → Option Value → Type 0
@@ -33,9 +39,6 @@ AnswerGood sc k (Err code) = Unit {0}
 both : (a b : Bool) → a ≡ true → b ≡ true → (a && b) ≡ true
 both a b x y = grind arith
 
-first_part : (a b : Bool) → (a && b) ≡ true → a ≡ true
-first_part a b x = grind arith
-
 sent_good : (sc : Scenario) (k : Key) (s : ℕ) (x : Value) → is_task sc s ≡ true → ValueFits sc k x
     → ValueFits sc k (sent s x)
 sent_good sc k s (values.User bytes) task h = h
@@ -44,10 +47,12 @@ sent_good sc k s (values.Task t) task h = h
 sent_good sc keys.Bank s values.Default task h = record { belongs = tt; tasks = both _ _ task refl }
 sent_good sc keys.Importance s values.Default task h = absurd h.belongs
 sent_good sc keys.User s values.Default task h = absurd h.belongs
+sent_good sc keys.Test s values.Default task h = absurd h.belongs
 sent_good sc keys.Bank s (values.Account holder merchant) task h =
-    record { belongs = tt; tasks = both _ _ (first_part (is_task sc holder) _ h.tasks) refl }
+    record { belongs = tt; tasks = both _ _ (and_left (is_task sc holder) _ h.tasks) refl }
 sent_good sc keys.Importance s (values.Account holder merchant) task h = absurd h.belongs
 sent_good sc keys.User s (values.Account holder merchant) task h = absurd h.belongs
+sent_good sc keys.Test s (values.Account holder merchant) task h = absurd h.belongs
 
 if_good : (sc : Scenario) (k : Key) (b : Bool) (x y : Value) → ValueFits sc k x → ValueFits sc k y
     → ValueFits sc k (if b then x else y)
@@ -57,26 +62,23 @@ if_good sc k false x y h g = g
 all_more : (sc : Scenario) (list : List ℕ) (r : ℕ) → list_all (is_task sc) list ≡ true → is_task sc r ≡ true
     → list_all (is_task sc) (list ++ r ∷ []) ≡ true
 all_more sc [] r h task = both _ _ task refl
-all_more sc (x ∷ list) r h task = both (is_task sc x) _ (first_part (is_task sc x) _ h)
-    (all_more sc list r (second_part (is_task sc x) _ h) task)
-  where
-    second_part : (a b : Bool) → (a && b) ≡ true → b ≡ true
-    second_part a b x = grind arith
+all_more sc (x ∷ list) r h task = both (is_task sc x) _ (and_left (is_task sc x) _ h)
+    (all_more sc list r (and_right (is_task sc x) _ h) task)
 
 more_chain : (sc : Scenario) (list : List ℕ) (r : ℕ) (b c : Bool) → is_task sc r ≡ true
     → ValueFits sc keys.Importance (values.Chain list)
-    → ValueFits sc keys.Importance (if b && (nat_lt (length list) 8 && c) then values.Chain
+    → ValueFits sc keys.Importance (if b && (nat_lt (length list) CHAIN_TASKS && c) then values.Chain
     (list ++ r ∷ []) else values.Chain list)
 more_chain sc list r false c task h = h
-more_chain sc list r true c task h = by_length (nat_lt (length list) 8) c refl
+more_chain sc list r true c task h = by_length (nat_lt (length list) CHAIN_TASKS) c refl
   where
-    longer : (n : ℕ) → nat_lt n 8 ≡ true → n + 1 ≤ 8
-    longer n e = grind arith
+    longer : (n limit : ℕ) → nat_lt n limit ≡ true → n + 1 ≤ limit
+    longer n limit e = grind arith
 
-    by_length : (a c : Bool) → nat_lt (length list) 8 ≡ a → ValueFits sc keys.Importance
+    by_length : (a c : Bool) → nat_lt (length list) CHAIN_TASKS ≡ a → ValueFits sc keys.Importance
         (if a && c then values.Chain (list ++ r ∷ []) else values.Chain list)
     by_length true true e = record {
-      belongs = rw (length-append list (r ∷ [])) (one_at_least (length list), longer (length list) e);
+      belongs = rw (length-append list (r ∷ [])) (one_at_least (length list), longer (length list) CHAIN_TASKS e);
       tasks = all_more sc list r h.tasks task;
     }
       where
@@ -92,12 +94,14 @@ received_good sc keys.Importance b r (values.Chain list) task h =
     more_chain sc list r b (not (slice_index list (length list - 1) == r)) task h
 received_good sc keys.Bank b r (values.Chain list) task h = absurd h.belongs
 received_good sc keys.User b r (values.Chain list) task h = absurd h.belongs
+received_good sc keys.Test b r (values.Chain list) task h = absurd h.belongs
 received_good sc k b r values.Default task h = h
 received_good sc keys.Bank b r (values.Task holder) task h =
     if_good sc keys.Bank (holder == r) (values.Task holder) (values.Account holder r) h
-    (record { belongs = tt; tasks = both _ _ (first_part (is_task sc holder) true h.tasks) (both _ _ task refl) })
+    (record { belongs = tt; tasks = both _ _ (and_left (is_task sc holder) true h.tasks) (both _ _ task refl) })
 received_good sc keys.Importance b r (values.Task holder) task h = absurd h.belongs
 received_good sc keys.User b r (values.Task holder) task h = absurd h.belongs
+received_good sc keys.Test b r (values.Task holder) task h = absurd h.belongs
 received_good sc k b r (values.Account holder merchant) task h = h
 
 mapped_good : (sc : Scenario) (k : Key) (g : Value → Value) (x : Option Value)
@@ -114,35 +118,40 @@ bare_good : (sc : Scenario) (k : Key) (content : List ℕ) (x : Option Value) �
     → AnswerGood sc k (bare content x)
 bare_good sc k content x h = answer_if sc k (length content == 0) (Ok x) _ h tt
 
+stored_good : (sc : Scenario) (k : Key) (command : ℕ) (content : List ℕ) → Belongs k (values.User content)
+    → AnswerGood sc k (stored command content)
+stored_good sc k command content h =
+    answer_if sc k (command == commands.USER_DATA_STORE) _ _ (record { belongs = h; tasks = refl }) tt
+
 own_good : (sc : Scenario) (k : Key) (tasks : Option (List Flags)) (by command : ℕ) (previous : Option Value)
     (content : List ℕ) → is_task sc by ≡ true → OptionGood sc k previous
     → AnswerGood sc k (own_answer k tasks by command previous content)
-own_good sc keys.User tasks by command previous content task h =
-    answer_if sc keys.User (command == 211) _ _ (record { belongs = tt; tasks = refl }) tt
+own_good sc keys.User tasks by command previous content task h = stored_good sc keys.User command content tt
+own_good sc keys.Test tasks by command previous content task h = stored_good sc keys.Test command content tt
 own_good sc keys.Importance tasks by command previous content task h =
-    answer_if sc keys.Importance (command == 200) _ _ (bare_good sc keys.Importance content
+    answer_if sc keys.Importance (command == commands.IMPORTANCE_SELF) _ _ (bare_good sc keys.Importance content
     (Some (values.Chain (by ∷ []))) (record { belongs = one_task; tasks = both _ _ task refl }))
-    (answer_if sc keys.Importance (command == 4) _ _
+    (answer_if sc keys.Importance (command == commands.AUTO_REDEEM) _ _
     (bare_good sc keys.Importance content _ (mapped_good sc keys.Importance
     (received (flags_in tasks by).receiver by) previous (λ y g. received_good sc keys.Importance
     (flags_in tasks by).receiver by y task g) h)) tt)
   where
-    one_task : (1 ≤ 1) × (1 ≤ 8)
+    one_task : (1 ≤ 1) × (1 ≤ CHAIN_TASKS)
     one_task = (omega arith, omega arith)
 own_good sc keys.Bank tasks by command previous content task h =
-    answer_if sc keys.Bank (command == 610) _ _ (bare_good sc keys.Bank content (Some values.Default)
+    answer_if sc keys.Bank (command == commands.BANK_CREATE) _ _ (bare_good sc keys.Bank content (Some values.Default)
     (record { belongs = tt; tasks = refl }))
-    (answer_if sc keys.Bank (command == 4) _ _
+    (answer_if sc keys.Bank (command == commands.AUTO_REDEEM) _ _
     (bare_good sc keys.Bank content _ (mapped_good sc keys.Bank (received (flags_in tasks by).receiver by) previous
     (λ y g. received_good sc keys.Bank (flags_in tasks by).receiver by y task g) h))
-    (answer_if sc keys.Bank (command == 5) _ _
+    (answer_if sc keys.Bank (command == commands.SEND_PREPROCESS) _ _
     (bare_good sc keys.Bank content _ (mapped_good sc keys.Bank (sent by) previous
     (λ y g. sent_good sc keys.Bank by y task g) h)) tt))
 
 pub answer_good : (sc : Scenario) (k : Key) (t command : ℕ) (previous : Option Value) (content : List ℕ)
     → is_task sc t ≡ true → OptionGood sc k previous
     → AnswerGood sc k (answer_to k t command previous content)
-answer_good sc k t command previous content task h = answer_if sc k (command == 10) _ _
+answer_good sc k t command previous content task h = answer_if sc k (command == commands.REDEEM) _ _
     (bare_good sc k content previous h) (own_good sc k None t command previous content task h)
 
 -- a value that is found live
@@ -168,13 +177,14 @@ record_good sc live names t map r None task fits = tt
 record_good sc live names t map r (Some k) task fits = answer_good sc k t r.command _ r.content task
     (found_good sc live k (of_key k (previous_of names map r.previous)) fits)
 
-first_good : (sc : Scenario) (live : List Living) (names : List Named) (t : ℕ) (ks : List Key) (map : Handles)
-    (first : First) → is_task sc t ≡ true → ValuesFit sc live → AskedGood sc (asked_first live names t ks map first)
-first_good sc live names t ks map (One r rest) task fits = record_good sc live names t map r
-    (if r.key == 4294967295 then Some (head_key ks) else key_of r.key) task fits
-first_good sc live names t ks map First.End task fits = tt
-first_good sc live names t ks map (First.HeaderCut left) task fits = tt
-first_good sc live names t ks map (First.ContentCut wanted left) task fits = tt
+first_good : (version : ℕ) (sc : Scenario) (live : List Living) (names : List Named) (t : ℕ) (ks : List Key)
+    (map : Handles) (first : First) → is_task sc t ≡ true → ValuesFit sc live
+    → AskedGood sc (asked_first version live names t ks map first)
+first_good version sc live names t ks map (One r rest) task fits = record_good sc live names t map r
+    (if r.key == ALL_KEYS then head_key (keys_left version ks) else key_of version r.key) task fits
+first_good version sc live names t ks map First.End task fits = tt
+first_good version sc live names t ks map (First.HeaderCut left) task fits = tt
+first_good version sc live names t ks map (First.ContentCut wanted left) task fits = tt
 
 transfer_good : (sc : Scenario) (live : List Living) (g : Value → Value) (ks : List Key) (map : Handles)
     → ((k : Key) (y : Value) → ValueFits sc k y → ValueFits sc k (g y)) → ValuesFit sc live
@@ -185,7 +195,7 @@ transfer_good sc live g (k ∷ ks) map f fits = mapped_good sc k g (value_at liv
 
 by_good : (sc : Scenario) (m : Machine) (t : ℕ) (f : Frame) (v : Handles) (call : Call) → is_task sc t ≡ true
     → ValuesFit sc m.live → AskedGood sc (asked_by sc m t f v call)
-by_good sc m t f v (calls.Create bytes) task fits = first_good sc m.live (tasked m t).names t f.keys v
+by_good sc m t f v (calls.Create bytes) task fits = first_good sc.version sc m.live (tasked m t).names t f.keys v
     (first_of (drop f.at_byte bytes)) task fits
 by_good sc m t f v (calls.Send to moving name id) task fits =
     transfer_good sc m.live (sent t) f.keys v (λ k y h. sent_good sc k t y task h) fits
@@ -199,6 +209,7 @@ by_good sc m t f v (calls.Charge name n) task fits = tt
 by_good sc m t f v calls.Ledger task fits = tt
 by_good sc m t f v calls.Assertions task fits = tt
 by_good sc m t f v calls.Live task fits = tt
+by_good sc m t f v calls.Exit task fits = tt
 
 -- the value that a Make asks for belongs to its key, and names tasks of the scenario
 pub asked_value : (sc : Scenario) (m : Machine) (t : ℕ) (f : Frame) (v : Handles) (call : Call) (k : Key) (x : Value)

@@ -1,22 +1,27 @@
 -- Work and a refusal change no spot.
 use Rattle.std.proofs.Common.{◌≡◌, ℕ, ◌+◌, Bool, List, [], ◌∷◌, ◌++◌, refl, true, false, not, ◌&&◌, ◌||◌, arith, sym, ap, ◌∙◌, subst, length, map, Some, None, Option, Ok, Err, Result}
 use Rattle.std.specs.Prelude.{if◌then◌else◌, ◌==◌, ℤ}
-use Rattle.std.specs.List.{list_any}
+use Rattle.std.specs.List.{list_any, flat_map}
 use Rattle.std.proofs.lemmas.List.Folds.{list_any-append}
 use Rattle.vch_base.specs.declared.key.Key.{Key}
 use Rattle.vch_base.specs.declared.key.Key.TheVariants as keys
-use Rattle.vch_base.specs.Keys.{number_of, key_of}
+use Rattle.vch_base.specs.Keys.{number_of, every_key, managed, key_of}
+use Rattle.vch_base.specs.Keyed.{of_key, with_key}
+use Rattle.vch_base.specs.declared.commands.TheConstants as commands
+use Rattle.vch_base.specs.declared.key.TheConstants.{ALL_KEYS}
+use Rattle.vch_base.proofs.CallerLemmas.{with_of}
 use Rattle.vch_recipe.specs.Recipes.{First, One}
 use Rattle.vch_recipe.specs.declared.recipe.Recipe.{Recipe}
 use Rattle.vch_model.specs.declared.call.Call.{Call}
-use Rattle.vch_machine.specs.State.{Handles, of_key, with_key, Place, same_place, Named, Frame, Machine, tasked, has_place, option_has, is_handle, frame_holds, frame_expects, frame_claims}
+use Rattle.vch_model.specs.Eval.{is_core_command, is_plain_command}
+use Rattle.vch_machine.specs.State.{Handles, Place, same_place, Named, Frame, Machine, tasked, has_place, option_has, is_handle, frame_holds, frame_expects, frame_claims}
 use Rattle.vch_machine.specs.Frames.{closed, with_frame, refuse}
 use Rattle.vch_machine.specs.Naming.{item, places, option_places, handles_of, same_handle}
-use Rattle.vch_machine.specs.Working.{copies, removes, changed, changed_at, changed_keys, copied, worked, worked_with, work_first, Worked, work_done}
+use Rattle.vch_machine.specs.Working.{copies, removes, changed, changed_at, changed_each, changed_keys, copied, worked, worked_with, work_first, Worked, work_done}
 use Rattle.vch_legal.specs.Facts.{spot}
-use Rattle.vch_legal.proofs.Places.{closed_holds, closed_expects, closed_claims}
+use Rattle.vch_legal.proofs.Choices.{and_right, cases_bool}
+use Rattle.vch_legal.proofs.Places.{same_key, closed_holds, closed_expects, closed_claims}
 use Rattle.vch_legal.proofs.FrameSpots.{one_eq, names_hold, queue_holds, others_hold, kept_named, others_expect, claims_before, claims_behind, spot_set, spot_of, spot_same, task_in_range}
-use Rattle.vch_legal.proofs.EventSpots.{cases_bool}
 
 abbrev at_key : Key → ℕ → Place
 at_key k h = record { key = k; handle = h }
@@ -39,27 +44,26 @@ item_holds k g (Some h) n = or_false ((number_of k == number_of g) && (h == n))
 pub of_voucher : (k g : Key) (x : Option ℕ) (v : Handles) (n : ℕ)
     → is_handle (of_key g (with_key k x v)) n ≡ (if number_of k == number_of g then is_handle x n else is_handle
     (of_key g v) n)
-of_voucher keys.Importance keys.Importance x v n = refl
-of_voucher keys.Importance keys.Bank x v n = refl
-of_voucher keys.Importance keys.User x v n = refl
-of_voucher keys.Bank keys.Importance x v n = refl
-of_voucher keys.Bank keys.Bank x v n = refl
-of_voucher keys.Bank keys.User x v n = refl
-of_voucher keys.User keys.Importance x v n = refl
-of_voucher keys.User keys.Bank x v n = refl
-of_voucher keys.User keys.User x v n = refl
+of_voucher k g x v n =
+    ap (λ o. is_handle o n) (with_of g k x v) ∙ (either (number_of g == number_of k)
+    ∙ ap (λ b. if b then is_handle x n else is_handle (of_key g v) n) (turned k g))
+  where
+    either : (b : Bool) → is_handle (if b then x else of_key g v) n ≡ (if b then is_handle x n else is_handle
+        (of_key g v) n)
+    either true = refl
+    either false = refl
 
-same_key_handle : (k g : Key) (v : Handles) (n : ℕ) → ((number_of k == number_of g) && is_handle (of_key k v) n) ≡
+    turned : (k g : Key) → (number_of g == number_of k) ≡ (number_of k == number_of g)
+    turned k g = grind arith
+
+pub same_key_handle : (k g : Key) (v : Handles) (n : ℕ) → ((number_of k == number_of g) && is_handle (of_key k v) n) ≡
     ((number_of k == number_of g) && is_handle (of_key g v) n)
-same_key_handle keys.Importance keys.Importance v n = refl
-same_key_handle keys.Importance keys.Bank v n = refl
-same_key_handle keys.Importance keys.User v n = refl
-same_key_handle keys.Bank keys.Importance v n = refl
-same_key_handle keys.Bank keys.Bank v n = refl
-same_key_handle keys.Bank keys.User v n = refl
-same_key_handle keys.User keys.Importance v n = refl
-same_key_handle keys.User keys.Bank v n = refl
-same_key_handle keys.User keys.User v n = refl
+same_key_handle k g v n =
+    cases_bool (number_of k == number_of g) (((number_of k == number_of g) && is_handle (of_key k v) n) ≡
+    ((number_of k == number_of g) && is_handle (of_key g v) n))
+    (λ here. subst (λ (j : Key). ((number_of k == number_of j) && is_handle (of_key k v) n) ≡
+    ((number_of k == number_of j) && is_handle (of_key j v) n)) (same_key k g here) refl)
+    (λ other. rw other)
 
 swap_bools : (same x y a n : Bool) → ((same && x) ≡ true → n ≡ true)
     → (((if same then x else y) || (a || (same && y))) || n) ≡ ((y || a) || n)
@@ -92,35 +96,34 @@ pub changed_holds : (k : Key) (x : Option (Option ℕ)) (w : Worked) (p : Place)
 changed_holds k None w p n new = refl
 changed_holds k (Some y) w p n new = swap_holds k p.key y w.forming p.handle w.left n (new y refl)
 
-three_eq : (a b c d e f : Bool) → a ≡ d → b ≡ e → c ≡ f → (a || (b || c)) ≡ (d || (e || f))
-three_eq a b c d e f x y z = cc
+two_or : (a b c d : Bool) → a ≡ c → b ≡ d → (a || b) ≡ (c || d)
+two_or a b c d x y = cc
 
-of_three : (g : Key) (v : Handles) (h : ℕ) → (lets_hold (item keys.Importance v.importance) (at_key g h) ||
-    (lets_hold (item keys.Bank v.bank) (at_key g h) || lets_hold (item keys.User v.user) (at_key g h)))
-    ≡ is_handle (of_key g v) h
-of_three g v h =
-    three_eq _ _ _ _ _ _ (item_holds keys.Importance g v.importance h) (item_holds keys.Bank g v.bank h)
-    (item_holds keys.User g v.user h) ∙ by_key g
+-- the handles at some keys
+some_hold : (v : Handles) (p : Place) (ks : List Key) → lets_hold (flat_map (λ k. item k (of_key k v)) ks) p ≡
+    list_any (λ k. (number_of k == number_of p.key) && is_handle (of_key k v) p.handle) ks
+some_hold v p [] = refl
+some_hold v p (k ∷ ks) =
+    list_any-append (λ q. same_place q p) (item k (of_key k v)) (flat_map (λ j. item j (of_key j v)) ks)
+    ∙ two_or _ _ _ _ (item_holds k p.key (of_key k v) p.handle) (some_hold v p ks)
+
+at_its_key : (g : Key) (v : Handles) (h : ℕ) → list_any (λ k. (number_of k == number_of g) && is_handle (of_key k v) h)
+    every_key ≡ is_handle (of_key g v) h
+at_its_key g v h = by_key g
   where
     or_false : (b : Bool) → (b || false) ≡ b
     or_false b = grind arith
 
-    by_key : (g : Key) → (((number_of keys.Importance == number_of g) && is_handle v.importance h) ||
-        (((number_of keys.Bank == number_of g) && is_handle v.bank h) ||
-        ((number_of keys.User == number_of g) && is_handle v.user h)))
-        ≡ is_handle (of_key g v) h
+    by_key : (g : Key) → list_any (λ k. (number_of k == number_of g) && is_handle (of_key k v) h) every_key ≡ is_handle
+        (of_key g v) h
     by_key keys.Importance = or_false (is_handle v.importance h)
     by_key keys.Bank = or_false (is_handle v.bank h)
-    by_key keys.User = refl
+    by_key keys.User = or_false (is_handle v.user h)
+    by_key keys.Test = or_false (is_handle v.test h)
 
 -- all handles of a voucher
 pub places_hold : (v : Handles) (p : Place) → lets_hold (places v) p ≡ has_place v p
-places_hold v p =
-    list_any-append (λ q. same_place q p) (item keys.Importance v.importance)
-    (item keys.Bank v.bank ++ item keys.User v.user)
-    ∙ (ap (λ b. lets_hold (item keys.Importance v.importance) p || b)
-    (list_any-append (λ q. same_place q p) (item keys.Bank v.bank) (item keys.User v.user))
-    ∙ of_three p.key v p.handle)
+places_hold v p = some_hold v p every_key ∙ at_its_key p.key v p.handle
 
 option_places_hold : (v : Option Handles) (p : Place) → lets_hold (option_places v) p ≡ option_has v p
 option_places_hold None p = refl
@@ -131,13 +134,13 @@ pub refuse_spot : (m : Machine) (t : ℕ) (f : Frame) (call : Call) (code : ℤ)
     → spot (refuse m t f call code) p ≡ spot m p
 refuse_spot m t f call code p e =
     spot_same m t f (closed left) p e
-    (closed_holds left p ∙ (list_any-append (λ q. same_place q p) f.lets (option_places f.forming)
+    (closed_holds left p (λ _. refl) ∙ (list_any-append (λ q. same_place q p) f.lets (option_places f.forming)
     ∙ (ap (λ b. lets_hold f.lets p || b) (option_places_hold f.forming p)
     ∙ or_comm (lets_hold f.lets p) (option_has f.forming p))))
     (closed_expects left p) (closed_claims left p)
   where
     left : Frame
-    left = record f { forming = None; keys = []; lets = f.lets ++ option_places f.forming }
+    left = record f { forming = None; answered = true; keys = []; lets = f.lets ++ option_places f.forming }
 
     or_comm : (a b : Bool) → (a || b) ≡ (b || a)
     or_comm a b = grind arith
@@ -188,14 +191,17 @@ if_holds : (p : Place) (n : Bool) (w : Worked) (b : Bool) (x y : Result Worked �
 if_holds p n w true x y g h = g
 if_holds p n w false x y g h = h
 
-changed_keys_holds : (f : Key → Option (Option ℕ)) (key : ℕ) (w : Worked) (p : Place) (n : Bool) → Known p n f
-    → HoldsAs p n w (changed_keys f key w)
-changed_keys_holds f key w p n known =
-    if_holds p n w (key == 4294967295) _ _
-    (changed_holds keys.User (f keys.User) _ p n (known keys.User)
-    ∙ (changed_holds keys.Bank (f keys.Bank) _ p n (known keys.Bank)
-    ∙ changed_holds keys.Importance (f keys.Importance) w p n (known keys.Importance)))
-    (changed_at_holds f (key_of key) w p n known)
+changed_each_holds : (f : Key → Option (Option ℕ)) (ks : List Key) (w : Worked) (p : Place) (n : Bool) → Known p n f
+    → (worked_holds (changed_each f ks w) p || n) ≡ (worked_holds w p || n)
+changed_each_holds f [] w p n known = refl
+changed_each_holds f (k ∷ ks) w p n known = changed_each_holds f ks (changed k (f k) w) p n known
+    ∙ changed_holds k (f k) w p n (known k)
+
+changed_keys_holds : (version : ℕ) (f : Key → Option (Option ℕ)) (key : ℕ) (w : Worked) (p : Place) (n : Bool)
+    → Known p n f → HoldsAs p n w (changed_keys version f key w)
+changed_keys_holds version f key w p n known =
+    if_holds p n w (key == ALL_KEYS) _ _ (changed_each_holds f (managed version) w p n known)
+    (changed_at_holds f (key_of version key) w p n known)
 
 none_new : (a : Bool) (y : Option ℕ) (h : ℕ) (n : Bool) → None ≡ y → (a && is_handle y h) ≡ true → n ≡ true
 none_new a y h n e g = let k : (a && false) ≡ true = subst (λ z. (a && is_handle z h) ≡ true) (sym e) g in grind arith
@@ -210,38 +216,35 @@ removes_known None map p n k y e h = let i : None ≡ y = cc in none_new (number
     h
 removes_known (Some v) map p n k y e h = removes_if (same_handle (of_key k v) (of_key k map)) k y p n e h
 
-right_part : (a b : Bool) → (a && b) ≡ true → b ≡ true
-right_part a b e = grind arith
-
 copies_known : (v map : Handles) (p : Place) (n : Bool) → (has_place v p ≡ true → n ≡ true)
     → Known p n (copies (Some v) map)
 copies_known v map p n held k y e h =
     let i : of_key k v ≡ y = cc in
-    held (right_part (number_of k == number_of p.key) (has_place v p)
+    held (and_right (number_of k == number_of p.key) (has_place v p)
     (sym (same_key_handle k p.key v p.handle) ∙ subst (λ z. ((number_of k == number_of p.key) && is_handle z p.handle)
     ≡ true) (sym i) h))
 
-copied_holds : (previous : Option Handles) (key : ℕ) (w : Worked) (p : Place) (n : Bool)
-    → (option_has previous p ≡ true → n ≡ true) → HoldsAs p n w (copied previous key w)
-copied_holds None key w p n held = refl
-copied_holds (Some v) key w p n held = changed_keys_holds (copies (Some v) w.forming) key w p n
+copied_holds : (version : ℕ) (previous : Option Handles) (key : ℕ) (w : Worked) (p : Place) (n : Bool)
+    → (option_has previous p ≡ true → n ≡ true) → HoldsAs p n w (copied version previous key w)
+copied_holds version None key w p n held = refl
+copied_holds version (Some v) key w p n held = changed_keys_holds version (copies (Some v) w.forming) key w p n
     (copies_known v w.forming p n held)
 
-worked_as : (r : Recipe) (previous : Option Handles) (w : Worked) (p : Place) (n : Bool)
-    → (option_has previous p ≡ true → n ≡ true) → HoldsAs p n w (worked r previous w)
-worked_as r previous w p n held =
-    if_holds p n w ((r.command == 3) || ((r.command == 4) || (r.command == 5))) _ _ tt
-    (if_holds p n w ((r.command == 0) || ((r.command == 1) || (r.command == 2))) _ _
+worked_as : (version : ℕ) (r : Recipe) (previous : Option Handles) (w : Worked) (p : Place) (n : Bool)
+    → (option_has previous p ≡ true → n ≡ true) → HoldsAs p n w (worked version r previous w)
+worked_as version r previous w p n held =
+    if_holds p n w (is_core_command r.command) _ _ tt
+    (if_holds p n w (is_plain_command r.command) _ _
     (if_holds p n w (not (length r.content == 0)) _ _ tt
-    (if_holds p n w (r.command == 0) _ _ refl
-    (if_holds p n w (r.command == 1) _ _ (copied_holds previous r.key w p n held)
-    (changed_keys_holds (removes previous w.forming) r.key w p n (removes_known previous w.forming p n)))))
+    (if_holds p n w (r.command == commands.NOOP) _ _ refl
+    (if_holds p n w (r.command == commands.COPY) _ _ (copied_holds version previous r.key w p n held)
+    (changed_keys_holds version (removes previous w.forming) r.key w p n (removes_known previous w.forming p n)))))
     tt)
 
-with_as : (r : Recipe) (previous : Option Handles) (w : Worked) (p : Place) (n : Bool)
-    → (option_has previous p ≡ true → n ≡ true) → HoldsAs p n w (worked_with r previous w)
-with_as r None w p n held = tt
-with_as r (Some v) w p n held = worked_as r (Some v) w p n held
+with_as : (version : ℕ) (r : Recipe) (previous : Option Handles) (w : Worked) (p : Place) (n : Bool)
+    → (option_has previous p ≡ true → n ≡ true) → HoldsAs p n w (worked_with version r previous w)
+with_as version r None w p n held = tt
+with_as version r (Some v) w p n held = worked_as version r (Some v) w p n held
 
 absurd_false : (n : Bool) → false ≡ true → n ≡ true
 absurd_false n e = cc
@@ -251,17 +254,17 @@ option_held : (names : List Named) (name : ℕ) (p : Place) (v : Option Handles)
 option_held names name p None e h = cc
 option_held names name p (Some v) e h = named_holds names name v p e h
 
-first_as : (names : List Named) (first : First) (map : Handles) (p : Place) (n : Bool)
+first_as : (version : ℕ) (names : List Named) (first : First) (map : Handles) (p : Place) (n : Bool)
     → (list_any (λ (n : Named). has_place n.voucher p) names ≡ true → n ≡ true)
-    → HoldsAs p n (record { forming = map; left = [] }) (work_first names first map)
-first_as names (One r rest) map p n held =
+    → HoldsAs p n (record { forming = map; left = [] }) (work_first version names first map)
+first_as version names (One r rest) map p n held =
     if_holds p n (record { forming = map; left = [] }) (r.previous == 0) _ _
-    (worked_as r None (record { forming = map; left = [] }) p n (absurd_false n))
-    (with_as r (handles_of names r.previous) (record { forming = map; left = [] }) p n
+    (worked_as version r None (record { forming = map; left = [] }) p n (absurd_false n))
+    (with_as version r (handles_of names r.previous) (record { forming = map; left = [] }) p n
     (λ h. held (option_held names r.previous p (handles_of names r.previous) refl h)))
-first_as names First.End map p n held = tt
-first_as names (First.HeaderCut left) map p n held = tt
-first_as names (First.ContentCut wanted left) map p n held = tt
+first_as version names First.End map p n held = tt
+first_as version names (First.HeaderCut left) map p n held = tt
+first_as version names (First.ContentCut wanted left) map p n held = tt
 
 or_three : (a b c : Bool) → a ≡ true → ((a || b) || c) ≡ true
 or_three a b c e = grind arith
@@ -270,11 +273,12 @@ join_lets : (g a x y n : Bool) → ((g || x) || n) ≡ ((y || false) || n) → (
 join_lets g a x y n e = grind arith
 
 -- Work changes no spot
-pub work_spot : (m : Machine) (t : ℕ) (f : Frame) (v : Handles) (call : Call) (size : ℕ) (first : First)
+pub work_spot : (m : Machine) (t : ℕ) (f : Frame) (version : ℕ) (v : Handles) (call : Call) (size : ℕ) (first : First)
     (r : Result Worked ℤ) (p : Place) → (tasked m t).frame ≡ Some f
-    → f.forming ≡ Some v → r ≡ work_first (tasked m t).names first v → spot (work_done m t f call size r) p ≡ spot m p
-work_spot m t f v call size first (Err code) p e forming eq = refuse_spot m t f call code p e
-work_spot m t f v call size first (Ok w) p e forming eq =
+    → f.forming ≡ Some v → r ≡ work_first version (tasked m t).names first v
+    → spot (work_done m t f call size r) p ≡ spot m p
+work_spot m t f version v call size first (Err code) p e forming eq = refuse_spot m t f call code p e
+work_spot m t f version v call size first (Ok w) p e forming eq =
     spot_alike m t f (Some (record f {
       forming = Some w.forming;
       at_byte = f.at_byte + size;
@@ -289,5 +293,5 @@ work_spot m t f v call size first (Ok w) p e forming eq =
     held : ((has_place w.forming p || lets_hold w.left p) || kept_named m t p) ≡
         ((has_place v p || false) || kept_named m t p)
     held = subst (λ (x : Result Worked ℤ). HoldsAs p (kept_named m t p) (record { forming = v; left = [] }) x) (sym eq)
-        (first_as (tasked m t).names first v p (kept_named m t p)
+        (first_as version (tasked m t).names first v p (kept_named m t p)
         (λ h. or_three (names_hold m t p) (queue_holds m t p) (others_hold m t p) h))

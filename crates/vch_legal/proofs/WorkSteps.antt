@@ -1,7 +1,8 @@
 -- Work, to its own task.
-use Rattle.std.proofs.Common.{◌≡◌, ℕ, ◌+◌, Bool, List, [], ◌∷◌, ◌++◌, refl, true, false, sym, ap, ◌∙◌, subst, length, drop, Some, None, Ok, Err, Result}
-use Rattle.std.specs.Prelude.{if◌then◌else◌, is_some, ℤ, pos}
+use Rattle.std.proofs.Common.{◌≡◌, ℕ, ◌+◌, Bool, List, [], ◌∷◌, ◌++◌, refl, true, false, sym, ◌∙◌, subst, length, drop, Some, None, Ok, Err, Result}
+use Rattle.std.specs.Prelude.{if◌then◌else◌, ◌||◌, not, ℤ}
 use Rattle.vch_base.specs.declared.key.Key.{Key}
+use Rattle.vch_base.specs.declared.codes.TheConstants.{KERN_INVALID_ARGUMENT}
 use Rattle.vch_base.specs.declared.kind.Kind.{Kind}
 use Rattle.vch_base.specs.declared.kind.Kind.TheVariants as kinds
 use Rattle.vch_recipe.specs.Recipes.{First, One, End, HeaderCut, ContentCut, first_of}
@@ -17,7 +18,8 @@ use Rattle.vch_machine.specs.Working.{Worked, work_first, work_done, do_work, si
 use Rattle.vch_legal.specs.Facts.{Fits}
 use Rattle.vch_legal.specs.Tie.{KeysFit, FormsCreate}
 use Rattle.vch_legal.proofs.HeldLive.{forming_live, names_live}
-use Rattle.vch_legal.proofs.Records.{seen_names, asks_same, valued_result, record_alike}
+use Rattle.vch_legal.proofs.Records.{seen_names, asks_same, record_alike}
+use Rattle.vch_legal.proofs.RecordChanges.{valued_result}
 use Rattle.vch_legal.proofs.Creates.{Names, worked_forms, refused_forms, Cut, cut_forms}
 use Rattle.vch_legal.proofs.Standing.{Step}
 use Rattle.vch_legal.proofs.LeaveSteps.{open_step}
@@ -25,28 +27,33 @@ use Rattle.vch_legal.proofs.Nexts.{forms_at, forms_in, some_kind}
 use Rattle.vch_legal.proofs.Refusals.{Calling, create_refused}
 
 -- where a record asks no manager, no keys are left
-no_keys : (names : Names) (ks : List Key) (r : Recipe) (rest : List ℕ) → KeysFit names ks (One r rest) → asks names r
+no_keys : (version : ℕ) (names : Names) (ks : List Key) (r : Recipe) (rest : List ℕ)
+    → KeysFit version names ks (One r rest) → asks version names r
     ≡ false → ks ≡ []
-no_keys names [] r rest fit e = refl
-no_keys names (k ∷ ks) r rest fit e = let h : asks names r ≡ true = fit.1 in cc
+no_keys version names [] r rest fit e = refl
+no_keys version names (k ∷ ks) r rest fit e = let h : asks version names r ≡ true = fit.1 in cc
 
-cut_keys : (names : Names) (ks : List Key) (first : First) → KeysFit names ks first → Cut first → ks ≡ []
-cut_keys names [] first fit cut = refl
-cut_keys names (k ∷ ks) (HeaderCut left) fit cut = absurd fit
-cut_keys names (k ∷ ks) (ContentCut wanted left) fit cut = absurd fit
-cut_keys names (k ∷ ks) (One r rest) fit cut = absurd cut
-cut_keys names (k ∷ ks) End fit cut = absurd cut
+cut_keys : (version : ℕ) (names : Names) (ks : List Key) (first : First) → KeysFit version names ks first
+    → Cut first → ks ≡ []
+cut_keys version names [] first fit cut = refl
+cut_keys version names (k ∷ ks) (HeaderCut left) fit cut = absurd fit
+cut_keys version names (k ∷ ks) (ContentCut wanted left) fit cut = absurd fit
+cut_keys version names (k ∷ ks) (One r rest) fit cut = absurd cut
+cut_keys version names (k ∷ ks) End fit cut = absurd cut
 
 not_asking : (b : Bool) → (if b then kinds.Make else kinds.Work) ≡ kinds.Work → b ≡ false
 not_asking true e = cc
 not_asking false e = refl
 
+pub unanswered_open : {a : Bool} → a ≡ false → (b : Bool) → (not a || b) ≡ true
+unanswered_open e b = rw e refl
+
 work_result : (sc : Scenario) (t : ℕ) (m : Machine) (f : Frame) (v : Handles) (bytes : List ℕ) (r : Recipe)
     (rest : List ℕ) (x : Result Worked ℤ) → Calling sc t m f (calls.Create bytes) → f.forming ≡ Some v → f.receipt
     ≡ None
-    → FormsCreate (seen_names m.live (tasked m t).names) t bytes f.at_byte [] (valued m.live v) → f.keys ≡ []
-    → first_of (drop f.at_byte bytes) ≡ One r rest → asks (seen_names m.live (tasked m t).names) r ≡ false
-    → valued_result m.live x ≡ eval (seen_names m.live (tasked m t).names) t r (valued m.live v)
+    → FormsCreate sc.version (seen_names m.live (tasked m t).names) t bytes f.at_byte [] (valued m.live v) → f.keys ≡ []
+    → first_of (drop f.at_byte bytes) ≡ One r rest → asks sc.version (seen_names m.live (tasked m t).names) r ≡ false
+    → valued_result m.live x ≡ eval sc.version (seen_names m.live (tasked m t).names) t r (valued m.live v)
     → Step sc t m (work_done m t f (calls.Create bytes) (16 + length r.content) x)
 work_result sc t m f v bytes r rest (Ok w) c forming receipt forms empty e a g =
     open_step sc t m f (record f {
@@ -54,38 +61,42 @@ work_result sc t m f v bytes r rest (Ok w) c forming receipt forms empty e a g =
       at_byte = f.at_byte + (16 + length r.content);
       lets =
           f.lets ++ w.left;
-    }) c.before c.frame (sym (ap is_some forming))
+    }) c.before c.frame refl
     (forms_in sc m.live (member_of m.live (tasked m t)) t (tasked m t).begun
     (record f { forming = Some w.forming; at_byte = f.at_byte + (16 + length r.content); lets = f.lets ++ w.left })
     w.forming None (calls.Create bytes) refl receipt c.there
-    (subst (λ (ks : List Key). FormsCreate (seen_names m.live (tasked m t).names) t bytes
+    (subst (λ (ks : List Key). FormsCreate sc.version (seen_names m.live (tasked m t).names) t bytes
     (f.at_byte + (16 + length r.content)) ks (valued m.live w.forming)) (sym empty)
-    (worked_forms (seen_names m.live (tasked m t).names) t bytes f.at_byte (valued m.live v) (valued m.live w.forming)
-    r rest forms e a (sym g)))) refl
+    (worked_forms sc.version (seen_names m.live (tasked m t).names) t bytes f.at_byte (valued m.live v)
+    (valued m.live w.forming)
+    r rest forms e a (sym g))) tt) (unanswered_open c.unanswered _)
 work_result sc t m f v bytes r rest (Err code) c forming receipt forms empty e a g =
     create_refused sc t m f bytes code c forms.some forms.few
-    (refused_forms (seen_names m.live (tasked m t).names) t bytes f.at_byte (valued m.live v) r rest code forms e
+    (refused_forms sc.version (seen_names m.live (tasked m t).names) t bytes f.at_byte (valued m.live v) r rest code
+    forms e
     (sym g))
 
 -- by the first of the bytes that are left
 work_at : (sc : Scenario) (t : ℕ) (m : Machine) (f : Frame) (v : Handles) (bytes : List ℕ) (first : First) → Fits sc m
     → Calling sc t m f (calls.Create bytes) → f.forming ≡ Some v → f.receipt ≡ None
-    → FormsCreate (seen_names m.live (tasked m t).names) t bytes f.at_byte f.keys (valued m.live v)
-    → first_of (drop f.at_byte bytes) ≡ first → first_next (tasked m t).names first ≡ kinds.Work
-    → Step sc t m (work_done m t f (calls.Create bytes) (size_of first) (work_first (tasked m t).names first v))
+    → FormsCreate sc.version (seen_names m.live (tasked m t).names) t bytes f.at_byte f.keys (valued m.live v)
+    → first_of (drop f.at_byte bytes) ≡ first → first_next sc.version (tasked m t).names first ≡ kinds.Work
+    → Step sc t m (work_done m t f (calls.Create bytes) (size_of first)
+    (work_first sc.version (tasked m t).names first v))
 work_at sc t m f v bytes (One r rest) fits c forming receipt forms e next =
     work_result sc t m f v bytes r rest _ c forming receipt
-    (subst (λ (ks : List Key). FormsCreate (seen_names m.live (tasked m t).names) t bytes f.at_byte ks
+    (subst (λ (ks : List Key). FormsCreate sc.version (seen_names m.live (tasked m t).names) t bytes f.at_byte ks
     (valued m.live v)) empty forms) empty e free
-    (record_alike m.live (tasked m t).names t r v fits.different (names_live sc m t fits)
+    (record_alike sc.version m.live (tasked m t).names t r v fits.different (names_live sc m t fits)
     (forming_live sc m t f v fits c.frame forming) free)
   where
-    free : asks (seen_names m.live (tasked m t).names) r ≡ false
-    free = sym (asks_same m.live (tasked m t).names r) ∙ not_asking (asks (known_name (tasked m t).names) r) next
+    free : asks sc.version (seen_names m.live (tasked m t).names) r ≡ false
+    free = sym (asks_same sc.version m.live (tasked m t).names r)
+        ∙ not_asking (asks sc.version (known_name (tasked m t).names) r) next
 
     empty : f.keys ≡ []
-    empty = no_keys (seen_names m.live (tasked m t).names) f.keys r rest
-        (subst (KeysFit (seen_names m.live (tasked m t).names) f.keys) e forms.fit) free
+    empty = no_keys sc.version (seen_names m.live (tasked m t).names) f.keys r rest
+        (subst (KeysFit sc.version (seen_names m.live (tasked m t).names) f.keys) e forms.fit) free
 work_at sc t m f v bytes End fits c forming receipt forms e next = let k : kinds.Place
     ≡ kinds.Work = next in absurd (elim (apart k) [ ])
   where
@@ -96,28 +107,30 @@ work_at sc t m f v bytes End fits c forming receipt forms e next = let k : kinds
     apart : kinds.Place ≡ kinds.Work → ⊥
     apart k = subst is_place k tt
 work_at sc t m f v bytes (HeaderCut left) fits c forming receipt forms e next =
-    create_refused sc t m f bytes (pos 4) c forms.some forms.few
-    (cut_forms (seen_names m.live (tasked m t).names) t bytes f.at_byte (valued m.live v) (HeaderCut left)
-    (subst (λ (ks : List Key). FormsCreate (seen_names m.live (tasked m t).names) t bytes f.at_byte ks
+    create_refused sc t m f bytes KERN_INVALID_ARGUMENT c forms.some forms.few
+    (cut_forms sc.version (seen_names m.live (tasked m t).names) t bytes f.at_byte (valued m.live v) (HeaderCut left)
+    (subst (λ (ks : List Key). FormsCreate sc.version (seen_names m.live (tasked m t).names) t bytes f.at_byte ks
     (valued m.live v))
-    (cut_keys (seen_names m.live (tasked m t).names) f.keys (HeaderCut left)
-    (subst (KeysFit (seen_names m.live (tasked m t).names) f.keys) e forms.fit) tt) forms) e tt)
+    (cut_keys sc.version (seen_names m.live (tasked m t).names) f.keys (HeaderCut left)
+    (subst (KeysFit sc.version (seen_names m.live (tasked m t).names) f.keys) e forms.fit) tt) forms) e tt)
 work_at sc t m f v bytes (ContentCut wanted left) fits c forming receipt forms e next =
-    create_refused sc t m f bytes (pos 4) c forms.some forms.few
-    (cut_forms (seen_names m.live (tasked m t).names) t bytes f.at_byte (valued m.live v) (ContentCut wanted left)
-    (subst (λ (ks : List Key). FormsCreate (seen_names m.live (tasked m t).names) t bytes f.at_byte ks
+    create_refused sc t m f bytes KERN_INVALID_ARGUMENT c forms.some forms.few
+    (cut_forms sc.version (seen_names m.live (tasked m t).names) t bytes f.at_byte (valued m.live v)
+    (ContentCut wanted left)
+    (subst (λ (ks : List Key). FormsCreate sc.version (seen_names m.live (tasked m t).names) t bytes f.at_byte ks
     (valued m.live v))
-    (cut_keys (seen_names m.live (tasked m t).names) f.keys (ContentCut wanted left)
-    (subst (KeysFit (seen_names m.live (tasked m t).names) f.keys) e forms.fit) tt) forms) e tt)
+    (cut_keys sc.version (seen_names m.live (tasked m t).names) f.keys (ContentCut wanted left)
+    (subst (KeysFit sc.version (seen_names m.live (tasked m t).names) f.keys) e forms.fit) tt) forms) e tt)
 
 pub no_work : (b : Bool) → (if b then Some kinds.Place else Some kinds.Make) ≡ Some kinds.Work → ⊥
 no_work true e = cc
 no_work false e = cc
 
--- Work
+-- Work, of a call that forms a voucher
 pub work_step : (sc : Scenario) (t : ℕ) (m : Machine) (f : Frame) (v : Handles) (call : Call) → Fits sc m
     → Calling sc t m f call → f.forming ≡ Some v → f.receipt ≡ None
-    → call_next (tasked m t).names f.at_byte f.keys (Some call) ≡ Some kinds.Work → Step sc t m (do_work m t f v call)
+    → call_next sc.version (tasked m t).names f.at_byte f.keys (Some call) ≡ Some kinds.Work
+    → Step sc t m (do_work sc.version m t f v call)
 work_step sc t m f v (calls.Create bytes) fits c forming receipt next =
     work_at sc t m f v bytes (first_of (drop f.at_byte bytes)) fits c forming receipt
     (forms_at sc t m f v None (calls.Create bytes) c.before c.frame forming receipt c.there) refl
@@ -132,3 +145,5 @@ work_step sc t m f v (calls.Charge name n) fits c forming receipt next = absurd 
 work_step sc t m f v calls.Ledger fits c forming receipt next = absurd (no_work _ next)
 work_step sc t m f v calls.Assertions fits c forming receipt next = absurd (no_work _ next)
 work_step sc t m f v calls.Live fits c forming receipt next = absurd (no_work _ next)
+work_step sc t m f v calls.Exit fits c forming receipt next =
+    absurd (forms_at sc t m f v None calls.Exit c.before c.frame forming receipt c.there)

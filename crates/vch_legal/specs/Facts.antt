@@ -1,14 +1,16 @@
 -- What every event keeps, seen from one handle.
-use Rattle.std.specs.Prelude.{◌≡◌, ℕ, ◌+◌, ◌≤◌, Bool, true, false, ◌==◌, nat_lt, ◌&&◌, ◌||◌, not, if◌then◌else◌, List, [], ◌∷◌, length, Option, Some, None, is_some}
+use Rattle.std.specs.Prelude.{◌≡◌, ℕ, ◌+◌, ◌*◌, ◌≤◌, Bool, true, false, ◌==◌, nat_lt, ◌&&◌, ◌||◌, not, if◌then◌else◌, List, [], ◌∷◌, length, Option, Some, None, is_some}
 use Rattle.std.specs.List.{list_any}
 use Rattle.vch_base.specs.declared.key.Key.{Key}
+use Rattle.vch_base.specs.Keys.{every_key}
+use Rattle.vch_base.specs.Keyed.{of_key}
 use Rattle.vch_base.specs.declared.value.Value.{Value}
 use Rattle.vch_base.specs.Values.{Belongs, task_numbers}
 use Rattle.vch_model.specs.declared.call.Call.TheVariants as calls
 use Rattle.vch_model.specs.declared.lists.Scenario.{Scenario}
 use Rattle.vch_model.specs.Lines.{is_task}
 use Rattle.vch_model.specs.Legal.{all_tasks}
-use Rattle.vch_machine.specs.State.{of_key, Place, same_place, Living, Claim, Frame, Machine, tasked, living_at, handle_of, is_held, is_expected, claims_on, default_living, default_place}
+use Rattle.vch_machine.specs.State.{Place, same_place, Living, Claim, Frame, Machine, tasked, living_at, handle_of, is_held, is_expected, claims_on, default_living, default_place}
 use Rattle.vch_machine.specs.Next.{current}
 use Rattle.vch_machine.specs.Leaving.{is_fixed}
 
@@ -80,14 +82,18 @@ claims_fit s (c ∷ d ∷ cs) = false
 abbrev pub spot_fits : Spot → Bool
 spot_fits s = holder_live s && (implies s.fixed s.live && claims_fit s s.claims)
 
--- a frame with a receipt has no claim and nothing to let go, and its call is not answered. At most six handles are
--- to be
--- let go at any time: those of two vouchers
+-- the handles of two vouchers
+abbrev pub most_lets : ℕ
+most_lets = 2 * length every_key
+
+-- a frame with a receipt has no claim and nothing to let go, and its call is not answered. Nothing is formed once the call
+-- is answered. At most the handles of two vouchers are to be let go at any time
 pub record FrameFits (f : Frame) : Type 0 where
   pub claim : is_some f.receipt ≡ true → f.claim ≡ None
   pub lets : is_some f.receipt ≡ true → f.lets ≡ []
   pub forming : is_some f.receipt ≡ true → is_some f.forming ≡ true
-  pub few : length f.lets ≤ 6
+  pub answered : f.answered ≡ true → f.forming ≡ None
+  pub few : length f.lets ≤ most_lets
 
 abbrev pub OptionFits : Option Frame → Type 0
 OptionFits None = Unit {0}
@@ -98,6 +104,11 @@ abbrev pub SendsToTasks : Scenario → Machine → Type 0
 SendsToTasks sc m = (t : ℕ) (f : Frame) (to : ℕ) (moving : Bool) (name id : ℕ) → is_task sc t ≡ true
     → (tasked m t).frame ≡ Some f
     → current sc m t ≡ Some (calls.Send to moving name id) → is_task sc to ≡ true
+
+-- the frame of an exit forms nothing
+abbrev pub ExitsFormNothing : Scenario → Machine → Type 0
+ExitsFormNothing sc m = (t : ℕ) (f : Frame) → is_task sc t ≡ true → (tasked m t).frame ≡ Some f
+    → current sc m t ≡ Some calls.Exit → f.forming ≡ None
 
 abbrev pub bit : Bool → ℕ
 bit b = if b then 1 else 0
@@ -125,8 +136,7 @@ pub record ValueFits (sc : Scenario) (k : Key) (x : Value) : Type 0 where
 abbrev pub ValuesFit : Scenario → List Living → Type 0
 ValuesFit sc live = (p : Place) (a : Living) → living_at live p ≡ Some a → ValueFits sc p.key a.value
 
--- the numbers of the Made entries of live values: each is within the history and at least 1 but for Default, and no
--- two
+-- the numbers of the Made entries of live values: each is within the history and at least 1 but for Default, and no two
 -- are the same
 pub record NumbersFit (n : ℕ) (live : List Living) : Type 0 where
   pub within : (p : Place) (a : Living) → living_at live p ≡ Some a → a.made ≤ n
@@ -134,8 +144,7 @@ pub record NumbersFit (n : ℕ) (live : List Living) : Type 0 where
   pub once : (p q : Place) (a b : Living) → living_at live p ≡ Some a → living_at live q ≡ Some b → a.made ≡ b.made
       → p ≡ q
 
--- what a handle has still to be paid for by a question: a claim that was not asked, and one more where the handle is
--- held
+-- what a handle has still to be paid for by a question: a claim that was not asked, and one more where the handle is held
 -- or has a claim that is back. Default's is never asked for
 abbrev pub burden : Spot → ℕ
 burden s = if s.fixed then 0 else times (λ c. not (asked c)) s.claims + bit
@@ -155,6 +164,7 @@ pub record Fits (sc : Scenario) (m : Machine) : Type 0 where
   pub spots : (p : Place) → spot_fits (spot m p) ≡ true
   pub frames : (t : ℕ) → OptionFits (tasked m t).frame
   pub sends : SendsToTasks sc m
+  pub exits : ExitsFormNothing sc m
   pub tasks : length m.tasks ≡ length sc.flags
   pub each_once : EachOnce m
   pub different : Different m.live

@@ -1,4 +1,9 @@
+pub mod Added
+pub mod Apart
 pub mod Conserved
+pub mod Evaluated
 pub mod Facts
+pub mod GivenBack
 pub mod Left
+pub mod Reports
 pub mod Tie

@@ -11,6 +11,7 @@ use Rattle.vch_model.specs.declared.entry.Entry.TheVariants as entries
 use Rattle.vch_model.specs.declared.entry.Reply.TheVariants as replies
 use Rattle.vch_model.specs.declared.lists.Scenario.{Scenario}
 use Rattle.vch_model.specs.Eval.{create, eval_all}
+use Rattle.vch_base.specs.Keyed.{everywhere}
 use Rattle.vch_machine.specs.State.{Machine, Tasked, Living, idle, start, default_living}
 use Rattle.vch_machine.specs.Events.{event, phase_event, numbers}
 use Rattle.vch_machine.specs.Schedules.{in_turn, happens, has_ended, turn_task, lowest_open, move_of, run, past_of}
@@ -69,7 +70,7 @@ task_after : ℕ → ℕ → Tasked
 task_after k i =
     if nat_lt (k + 1) i then idle
     else record {
-      names = record { name = 1; voucher = record { importance = Some (i - 1); bank = None; user = None }; refs = 1 }
+      names = record { name = 1; voucher = record (everywhere None) { importance = Some (i - 1) }; refs = 1 }
           ∷ [];
       next = 2;
       queue = [];
@@ -89,8 +90,8 @@ after k = record {
   pools = record {
     importance = record { free = []; used = k + 1 };
     bank = record { free = []; used = 1 };
-    user =
-        record { free = []; used = 0 };
+    user = record { free = []; used = 0 };
+    test = record { free = []; used = 0 };
   };
   tasks = map (task_after k) (numbers 9);
   past = past_after k;

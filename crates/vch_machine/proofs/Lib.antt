@@ -3,4 +3,4 @@ pub mod Others
 pub mod WithoutWant
 pub mod Rows
 mod FullList
-pub mod Histories
+pub mod CallerLemmas

@@ -32,6 +32,9 @@ worked = record {
   redeemed_all = refl;
   replaced = refl;
   moved_name = refl;
+  test_key = refl;
+  test_key_in_version_1 = refl;
+  limited_queue = refl;
   full_list = full_list;
   large_charges = refl;
 }

@@ -1,5 +1,5 @@
 -- What several events do: to a frame, to the history, to the tally, and how a call is answered.
-use Rattle.std.specs.Prelude.{ℕ, ◌||◌, not, if◌then◌else◌, [], ◌∷◌, ◌++◌, Option, Some, None, is_some, ℤ}
+use Rattle.std.specs.Prelude.{ℕ, true, ◌||◌, not, if◌then◌else◌, [], ◌∷◌, ◌++◌, Option, Some, None, is_some, ℤ}
 use Rattle.vch_model.specs.Replies.{refused}
 use Rattle.vch_model.specs.Words.{word_of}
 use Rattle.vch_model.specs.declared.call.Call.{Call}
@@ -9,9 +9,9 @@ use Rattle.vch_machine.specs.Naming.{option_places}
 use Rattle.vch_machine.specs.State.{Frame, Machine, tasked, with_tasked, is_empty, Tally}
 use Rattle.vch_model.specs.declared.entry.Entry.TheVariants as entries
 
--- a frame that has nothing left to do is gone
+-- a frame whose call is answered, and that has nothing left to do, is gone
 abbrev pub closed : Frame → Option Frame
-closed f = if is_some f.forming || (is_some f.receipt || (is_some f.claim || not (is_empty f.lets))) then Some f else
+closed f = if not f.answered || (is_some f.receipt || (is_some f.claim || not (is_empty f.lets))) then Some f else
     None
 
 -- with another frame of a task, or none
@@ -35,6 +35,7 @@ abbrev pub refuse : Machine → ℕ → Frame → Call → ℤ → Machine
 refuse m t f call code =
     replied (with_frame m t (closed (record f {
       forming = None;
+      answered = true;
       keys = [];
       lets = f.lets ++ option_places f.forming;
     }))) t call (refused code)

@@ -3,7 +3,8 @@
 use Rattle.std.specs.Prelude.{ℕ, ◌+◌, Bool, true, false, ◌&&◌, ◌||◌, not, if◌then◌else◌, List, ◌∷◌, Option, Some, None}
 use Rattle.vch_base.specs.Values.{is_default}
 use Rattle.vch_machine.specs.Frames.{tallied, closed, with_frame}
-use Rattle.vch_machine.specs.State.{of_key, with_key, Place, Living, Pool, Claim, Frame, Machine, living_at, without_place, is_held, is_expected, claims_on, is_empty, Tally}
+use Rattle.vch_base.specs.Keyed.{of_key, with_key}
+use Rattle.vch_machine.specs.State.{Place, Living, Pool, Claim, Frame, Machine, living_at, without_place, is_held, is_expected, claims_on, is_empty, Tally}
 use Rattle.vch_model.specs.declared.entry.Entry.TheVariants as entries
 
 -- the value is Default, which is never given back

@@ -10,7 +10,5 @@ pub mod Leaving
 pub mod Events
 pub mod Schedules
 pub mod PlainRuns
-pub mod Examples
 pub mod Worked
-pub mod Histories
 pub mod EndedRuns

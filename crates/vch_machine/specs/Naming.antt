@@ -1,13 +1,11 @@
 -- Names, vouchers of handles and their handles in order.
-use Rattle.std.specs.List.{list_any}
-use Rattle.std.specs.Prelude.{ℕ, ◌+◌, ◌-◌, Bool, true, false, ◌==◌, nat_lt, ◌&&◌, ◌||◌, if◌then◌else◌, List, [], ◌∷◌, ◌++◌, Option, Some, None}
+use Rattle.std.specs.List.{list_any, list_all, flat_map}
+use Rattle.std.specs.Prelude.{ℕ, ◌+◌, ◌-◌, Bool, true, false, ◌==◌, nat_lt, ◌||◌, not, if◌then◌else◌, List, [], ◌∷◌, ◌++◌, Option, Some, None}
+use Rattle.vch_base.specs.Keys.{every_key}
+use Rattle.vch_base.specs.Keyed.{of_key}
+use Rattle.vch_model.specs.Store.{lower}
 use Rattle.vch_base.specs.declared.key.Key.{Key}
 use Rattle.vch_machine.specs.State.{Handles, Place, Named, Message, Tasked, Machine}
-use Rattle.vch_base.specs.declared.key.Key.TheVariants as keys
-
--- all keys that have a manager, in rising order
-abbrev pub all_keys : List Key
-all_keys = keys.Importance ∷ keys.Bank ∷ keys.User ∷ []
 
 -- the voucher of a name, or none where the name is not there
 abbrev pub handles_of : List Named → ℕ → Option Handles
@@ -22,7 +20,7 @@ same_handle x y = false
 
 -- the vouchers have the same handles, so they are one voucher
 abbrev pub same_handles : Handles → Handles → Bool
-same_handles a b = same_handle a.importance b.importance && (same_handle a.bank b.bank && same_handle a.user b.user)
+same_handles a b = list_all (λ k. same_handle (of_key k a) (of_key k b)) every_key
 
 -- the name of a voucher, or none where no name has it
 abbrev pub name_of : List Named → Handles → Option ℕ
@@ -40,6 +38,16 @@ one_less [] name = []
 one_less (n ∷ names) name =
     if n.name == name then (if nat_lt 1 n.refs then record n { refs = n.refs - 1 } ∷ names else names) else n ∷
     one_less names name
+
+-- the lowest name, where there is one
+abbrev pub lowest : List Named → Option ℕ
+lowest [] = None
+lowest (n ∷ names) = Some (lower n.name (lowest names))
+
+-- without a name, whatever its user references
+abbrev pub without_name : List Named → ℕ → List Named
+without_name [] name = []
+without_name (n ∷ names) name = if n.name == name then names else n ∷ without_name names name
 
 -- the name that a task gets for a voucher: the one it has, else the next
 abbrev pub name_for : Tasked → Option ℕ → ℕ
@@ -76,7 +84,7 @@ item k (Some h) = record { key = k; handle = h } ∷ []
 
 -- the handles of a voucher, in rising key
 abbrev pub places : Handles → List Place
-places v = item keys.Importance v.importance ++ (item keys.Bank v.bank ++ item keys.User v.user)
+places v = flat_map (λ k. item k (of_key k v)) every_key
 
 -- the same where there may be none
 abbrev pub option_places : Option Handles → List Place

@@ -1,7 +1,9 @@
 -- Place: the end of a create, a send or a recv. The voucher that was formed goes to a name or a message, and the call is
 -- answered.
-use Rattle.std.specs.Prelude.{ℕ, Bool, if◌then◌else◌, List, [], ◌∷◌, ◌++◌, Option, Some, None, pos}
+use Rattle.std.specs.Prelude.{ℕ, Bool, true, if◌then◌else◌, List, [], ◌∷◌, ◌++◌, Option, Some, None}
+use Rattle.vch_base.specs.declared.codes.TheConstants.{KERN_RESOURCE_SHORTAGE, MACH_SEND_TIMED_OUT}
 use Rattle.vch_model.specs.declared.call.Call.{Call}
+use Rattle.vch_model.specs.declared.lists.Scenario.{Scenario}
 use Rattle.vch_machine.specs.Beginning.{is_full, enqueued}
 use Rattle.vch_machine.specs.Frames.{refuse, replied, closed, with_frame}
 use Rattle.vch_machine.specs.Naming.{name_of, one_less, name_for, handles_of, orphaned, with_name, doubled}
@@ -11,7 +13,7 @@ use Rattle.vch_model.specs.declared.entry.Reply.TheVariants as replies
 
 -- the call is answered: nothing is formed any more, and these handles are let go
 abbrev pub ended : Frame → List Place → Option Frame
-ended f lets = closed (record f { forming = None; keys = []; lets = f.lets ++ lets })
+ended f lets = closed (record f { forming = None; answered = true; keys = []; lets = f.lets ++ lets })
 
 -- the voucher gets a name of the task; its handles are let go where the voucher was there before
 abbrev pub place_create : Machine → ℕ → Frame → Handles → Call → Machine
@@ -42,14 +44,16 @@ place_recv m t f v call (q ∷ queue) =
     replied (with_frame mid t (ended f (doubled m v ++ orphaned mid q.voucher))) t call
     (replies.Received q.sender q.id (name_for x (name_of x.names v)))
 
--- the event, with want of memory or without; a full queue is looked at before memory is wanted
-abbrev pub do_place : Bool → Machine → ℕ → Frame → Handles → Call → Option Machine
-do_place want m t f v (calls.Create bytes) =
-    if want then Some (refuse m t f (calls.Create bytes) (pos 6)) else Some (place_create m t f v (calls.Create bytes))
-do_place want m t f v (calls.Send to moving name id) =
-    if is_full m to then Some (refuse m t f (calls.Send to moving name id) (pos 268435460))
-    else if want then Some (refuse m t f (calls.Send to moving name id) (pos 6))
+-- the event, out of memory or not; a full queue is looked at before memory is asked for
+abbrev pub do_place : Scenario → Bool → Machine → ℕ → Frame → Handles → Call → Option Machine
+do_place sc want m t f v (calls.Create bytes) =
+    if want then Some (refuse m t f (calls.Create bytes) KERN_RESOURCE_SHORTAGE)
+    else Some (place_create m t f v (calls.Create bytes))
+do_place sc want m t f v (calls.Send to moving name id) =
+    if is_full sc m to then Some (refuse m t f (calls.Send to moving name id) MACH_SEND_TIMED_OUT)
+    else if want then Some (refuse m t f (calls.Send to moving name id) KERN_RESOURCE_SHORTAGE)
     else Some (place_send m t f v (calls.Send to moving name id) to moving name id)
-do_place want m t f v calls.Recv = if want then Some (refuse m t f calls.Recv (pos 6)) else Some
-    (place_recv m t f v calls.Recv (tasked m t).queue)
-do_place want m t f v call = None
+do_place sc want m t f v calls.Recv =
+    if want then Some (refuse m t f calls.Recv KERN_RESOURCE_SHORTAGE)
+    else Some (place_recv m t f v calls.Recv (tasked m t).queue)
+do_place sc want m t f v call = None

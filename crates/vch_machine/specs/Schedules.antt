@@ -49,7 +49,8 @@ move_of wants n (Some t) = Move.Of t (wants n)
 abbrev pub has_ended : Scenario → Machine → Bool
 has_ended sc m = not (nat_lt (phases_in m.past) (length sc.phases))
 
--- the moves in turn from a state on; the bound is above their number, and want of memory is asked by the number of moves left
+-- the moves in turn from a state on; the bound is above their number, and `wants` tells where memory runs out, by the number
+-- of moves left
 unfoldable pub in_turn : ℕ → (ℕ → Bool) → Scenario → Option Machine → List Move
 in_turn zero wants sc m = []
 in_turn (suc n) wants sc None = []

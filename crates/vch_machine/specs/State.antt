@@ -1,10 +1,12 @@
 -- The state of the event machine: values at handles, names, queues, frames, the tally and the history. All of it is this
 -- project's own. Holders are found by looking at all of them: there are no counts and no slots.
-use Rattle.std.specs.Prelude.{ℕ, ◌-◌, Bool, true, false, ◌==◌, nat_lt, ◌&&◌, ◌||◌, if◌then◌else◌, List, [], ◌∷◌, map, slice_set, slice_index_or, Option, Some, None}
+use Rattle.std.specs.Prelude.{ℕ, Bool, true, false, ◌==◌, nat_lt, ◌&&◌, ◌||◌, if◌then◌else◌, List, [], ◌∷◌, map, Option, Some, None}
 use Rattle.std.specs.List.{list_any, flat_map}
 use Rattle.vch_base.specs.declared.key.Key.{Key}
 use Rattle.vch_base.specs.declared.key.Key.TheVariants as keys
 use Rattle.vch_base.specs.Keys.{number_of}
+use Rattle.vch_base.specs.Keyed.{Keyed, of_key, with_key, everywhere, tabled}
+use Rattle.vch_base.specs.Tasks.{at_task, set_task}
 use Rattle.vch_base.specs.declared.value.Value.{Value}
 use Rattle.vch_base.specs.declared.value.Value.TheVariants as values
 use Rattle.vch_model.specs.declared.entry.Entry.{Entry}
@@ -13,31 +15,13 @@ use Rattle.vch_model.specs.Voucher.{Voucher}
 use Rattle.vch_base.specs.Values.{equal_values}
 use Rattle.vch_model.specs.Store as store
 
--- something for each key that has a manager
-pub record Keyed (A : Type 0) : Type 0 where
-  pub importance : A
-  pub bank : A
-  pub user : A
-
--- what stands at a key
-abbrev pub of_key : {A : Type 0} → Key → Keyed A → A
-of_key keys.Importance x = x.importance
-of_key keys.Bank x = x.bank
-of_key keys.User x = x.user
-
--- with something else at a key
-abbrev pub with_key : {A : Type 0} → Key → A → Keyed A → Keyed A
-with_key keys.Importance a x = record x { importance = a }
-with_key keys.Bank a x = record x { bank = a }
-with_key keys.User a x = record x { user = a }
-
--- a voucher here: a handle, or none, at each managed key
+-- a voucher here: a handle, or none, at each key
 abbrev pub Handles : Type 0
 Handles = Keyed (Option ℕ)
 
 -- the voucher without a value
 abbrev pub no_handles : Handles
-no_handles = record { importance = None; bank = None; user = None }
+no_handles = everywhere None
 
 -- a place: a handle of a key
 pub record Place : Type 0 where
@@ -79,12 +63,13 @@ pub record Claim : Type 0 where
   pub back : Bool
   pub answer : Option Bool
 
--- what one call still has to do. `forming` is the voucher that it makes, and nothing once it is answered. `at_byte` is the
--- place of the next record of a create. `keys` are the keys still to be asked: of a send or recv, or of a record that
--- redeems all keys and is under way. `receipt` is a reference that a manager gave and that was not taken yet. `lets` are
--- the references still to be let go
+-- what one call still has to do. `forming` is the voucher that it makes: nothing once it is answered, and always nothing
+-- for an exit. `answered` tells whether its reply was given. `at_byte` is the place of the next record of a create. `keys`
+-- are the keys still to be asked: of a send or recv, or of a record that redeems all keys and is under way. `receipt` is a
+-- reference that a manager gave and that was not taken yet. `lets` are the references still to be let go
 pub record Frame : Type 0 where
   pub forming : Option Handles
+  pub answered : Bool
   pub at_byte : ℕ
   pub keys : List Key
   pub receipt : Option Place
@@ -131,12 +116,7 @@ no_tally = record { claims = 0; refers = 0; asks = 0 }
 abbrev pub start : Scenario → Machine
 start sc = record {
   live = default_living ∷ [];
-  pools = record {
-    importance = record { free = []; used = 0 };
-    bank = record { free = []; used = 1 };
-    user = record
-        { free = []; used = 0 };
-  };
+  pools = with_key keys.Bank (record { free = []; used = 1 }) (everywhere (record { free = []; used = 0 }));
   tasks = map (λ _. idle) sc.flags;
   past = [];
   tally = no_tally;
@@ -144,11 +124,11 @@ start sc = record {
 
 -- a task by its number, from 1
 abbrev pub tasked : Machine → ℕ → Tasked
-tasked m t = slice_index_or m.tasks (t - 1) idle
+tasked m t = at_task m.tasks t idle
 
 -- with another state of a task
 abbrev pub with_tasked : Machine → ℕ → Tasked → Machine
-with_tasked m t x = record m { tasks = slice_set m.tasks (t - 1) x }
+with_tasked m t x = record m { tasks = set_task m.tasks t x }
 
 -- the live value at a place
 abbrev pub living_at : List Living → Place → Option Living
@@ -178,11 +158,7 @@ value_at live k (Some h) = value_of (living_at live (record { key = k; handle = 
 
 -- the voucher of the sequential store that handles stand for
 abbrev pub valued : List Living → Handles → Voucher
-valued live v = record {
-  importance = value_at live keys.Importance v.importance;
-  bank = value_at live keys.Bank v.bank;
-  user = value_at live keys.User v.user;
-}
+valued live v = tabled (λ k. value_at live k (of_key k v))
 
 -- the same where there may be none
 abbrev pub valued_option : List Living → Option Handles → Option Voucher

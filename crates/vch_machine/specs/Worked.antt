@@ -10,8 +10,9 @@ use Rattle.vch_model.specs.declared.lists.Scenario.{Scenario}
 use Rattle.vch_model.specs.Replies.{refused}
 use Rattle.vch_machine.specs.State.{start}
 use Rattle.vch_machine.specs.Schedules.{Move, in_turn, by_seed, history_of}
-use Rattle.vch_machine.specs.Examples as examples
-use Rattle.vch_machine.specs.Examples.{self, bank, by, plain, both, scenario}
+use Rattle.vch_model.specs.Worked as examples
+use Rattle.vch_model.specs.WorkedTwo as two
+use Rattle.vch_model.specs.Examples.{self, bank, by, plain, both, scenario}
 
 abbrev pub ample : ℕ → Bool
 ample n = false
@@ -76,6 +77,10 @@ pub record Worked : Type 0 where
   pub redeemed_all : turn 60 examples.redeemed_all.scenario ≡ examples.redeemed_all.history
   pub replaced : turn 40 examples.replaced.scenario ≡ examples.replaced.history
   pub moved_name : turn 60 examples.moved_name.scenario ≡ examples.moved_name.history
+  -- version 2
+  pub test_key : turn 80 two.test_key.scenario ≡ two.test_key.history
+  pub test_key_in_version_1 : turn 40 two.test_key_in_version_1.scenario ≡ two.test_key_in_version_1.history
+  pub limited_queue : turn 60 two.limited_queue.scenario ≡ two.limited_queue.history
   -- a list of eight grows no more; the last four calls
   pub full_list : last 5 (turn 120 nine_tasks) ≡ full_list_end
   -- two charges of the largest number; the last call

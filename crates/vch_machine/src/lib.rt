@@ -1,7 +1,7 @@
 //! The event machine: what the tasks' small steps do to names, queues, values and the history, and which step of a task is
 //! next.
 //!
-//! The crate has definitions alone, all in `specs/`, and three laws. A call is carried out in events; between two
+//! The crate has definitions alone, all in `specs/`, and two laws. A call is carried out in events; between two
 //! events of one call, any task may do its own. The machine finds that a value is not held by looking at every holder: it
 //! has no counts, no slots and no lock. Bodies of code show that each of their steps is an event of it.
 //!
@@ -20,18 +20,17 @@
 //! Where Ask comes before Make it is agreed, the value is released, and the Make is of a new value.
 #![tactic(auto)]
 
-ghost use Rattle.std.specs.Prelude.{◌≡◌, ◌≢◌, ◌-◌, ℕ, Bool, Option, Some};
+ghost use Rattle.std.specs.Prelude.{◌≡◌, ◌≢◌, ℕ, Bool, Option, Some};
 ghost use Rattle.vch_model.specs.declared.lists.Scenario.{Scenario};
 ghost use Rattle.vch_machine.specs.State.{Machine};
 ghost use Rattle.vch_machine.specs.Events.{event};
 ghost use Rattle.vch_machine.specs.Next.{next_kind};
 ghost use Rattle.vch_machine.specs.Worked.{Worked};
-ghost use Rattle.vch_machine.specs.Histories.{AreWhole, Texts};
 
 /// A law: an event of one task never changes which event of another is next.
 #[tactic(auto, using(crate::proofs::Others::others_next))]
 pub fn others_next()
-    ensures { (sc : Scenario) (want : Bool) (t u : ℕ) (m n : Machine) → u - 1 ≢ t - 1
+    ensures { (sc : Scenario) (want : Bool) (t u : ℕ) (m n : Machine) → u ≢ t
         → event sc want m t ≡ Some n → next_kind sc n u ≡ next_kind sc m u }
 {}
 
@@ -39,12 +38,4 @@ pub fn others_next()
 #[tactic(auto, using(crate::proofs::Rows::worked))]
 pub fn worked_scenarios()
     ensures { Worked }
-{}
-
-/// A law that computes: each history that is written beside a worked scenario is a whole one of it, by the sequential store
-/// alone, and two of them have these texts.
-#[tactic(auto, using(crate::proofs::Histories::texts))]
-pub fn worked_histories()
-    ensures whole { AreWhole }
-    ensures texts { Texts }
 {}

@@ -1,0 +1,9 @@
+use Rattle.vch_legal.proofs.EventSteps as events
+use Rattle.vch_legal.proofs.Runs.{phase_stands}
+use Rattle.vch_legal.proofs.event_stands.Goals as goal
+
+pub returns-clause-of_task : goal.returns-clause-of_task
+returns-clause-of_task c = events.event_stands
+
+pub returns-clause-of_phase : goal.returns-clause-of_phase
+returns-clause-of_phase c = phase_stands

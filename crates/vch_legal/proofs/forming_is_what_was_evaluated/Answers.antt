@@ -1,0 +1,5 @@
+use Rattle.vch_legal.proofs.RunsEvaluated.{run_evaluated}
+use Rattle.vch_legal.proofs.forming_is_what_was_evaluated.Goals as goal
+
+pub returns : goal.returns
+returns c = run_evaluated

@@ -1,0 +1,5 @@
+use Rattle.vch_legal.proofs.Runs.{reached_stands}
+use Rattle.vch_legal.proofs.run_stands.Goals as goal
+
+pub returns : goal.returns
+returns c = reached_stands
