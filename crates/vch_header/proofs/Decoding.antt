@@ -3,7 +3,7 @@ use Rattle.std.proofs.Common.{◌≡◌, ◌↔◌, ◌≤◌, ◌<◌, ℕ, nat
 use Rattle.std.proofs.lemmas.Grind.{common_steps}
 use Rattle.std.proofs.lemmas.Bool.{cases_lt}
 use Rattle.std.proofs.lemmas.List.{length-take-le, get_or-take, length-take}
-use Rattle.vch_recipe.proofs.FourBytes.{AreBytes}
+use Rattle.vch_recipe.proofs.CallerLemmas.{AreBytes}
 use Rattle.vch_header.specs.Dispositions.{IsKnown, disposition_of, voucher_bits}
 use Rattle.vch_header.specs.Fields.{Fields}
 use Rattle.vch_header.specs.Headers.{IsHeader, Begins, HasUnknown, made_by, made, fields_in, decoded}

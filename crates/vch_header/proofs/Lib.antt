@@ -4,3 +4,4 @@ pub mod MessageWords
 pub mod HeaderDigits
 pub mod Translations
 pub mod Lines
+pub mod CallerLemmas

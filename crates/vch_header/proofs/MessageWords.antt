@@ -5,11 +5,7 @@ use Rattle.vch_model.specs.Grammar.{IsWord, Begins}
 use Rattle.vch_model.specs.TextLines.{is_passed}
 use Rattle.vch_text.specs.Reading.{◌>>=◌, Finds}
 use Rattle.vch_text.specs.Words.{front_of, word_at, end_of, is_word}
-use Rattle.vch_text.proofs.Told.{Told, told_bind, told_test, both, word_true, word_same, word_false}
-use Rattle.vch_text.proofs.Fronts.{front_sep, front_none}
-use Rattle.vch_text.proofs.Splits.{front_whole}
-use Rattle.vch_text.proofs.WordsBack.{front_word, word_told, word_again, Follows, front_again, end_told, end_again}
-use Rattle.vch_text.proofs.Plain.{plain_word, above_plain}
+use Rattle.vch_text.proofs.CallerLemmas.{Told, told_bind, told_test, both, word_true, word_same, word_false, front_sep, front_none, front_whole, front_word, word_told, word_again, Follows, front_again, end_told, end_again, plain_word, above_plain}
 use Rattle.vch_header.specs.Messages.{IsMessage, IsOther}
 use Rattle.vch_header.specs.Translating.{is_message, message_words, message_of}
 

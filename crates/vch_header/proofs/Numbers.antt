@@ -6,7 +6,7 @@ use Rattle.std.specs.List.{flat_map}
 use Rattle.byteorder.specs.Endian.{little_bytes, little_number, IsRead}
 use Rattle.vch_base.specs.Words.{word}
 use Rattle.vch_recipe.specs.Recipes.{word_at}
-use Rattle.vch_recipe.proofs.FourBytes.{AreBytes, read_number, word_spelled, word_below}
+use Rattle.vch_recipe.proofs.CallerLemmas.{AreBytes, read_number, word_spelled, word_below}
 use Rattle.vch_header.specs.Fields.{Fields, Fits, spelling}
 use Rattle.vch_header.specs.Headers.{fields_of, fields_in}
 

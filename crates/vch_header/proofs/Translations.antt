@@ -1,6 +1,6 @@
 -- A text has one translation, or one first line that can't be translated.
 use Rattle.vch_header.specs.Translating.{message_of}
-use Rattle.vch_text.proofs.Told.{Told}
+use Rattle.vch_text.proofs.CallerLemmas.{Told}
 use Rattle.std.proofs.Common.{◌≡◌, ◌+◌, ℕ, List, [], ◌∷◌, refl, sym, ap, ◌∙◌, inl, inr, subst, Option, Some, None, ◌⊎◌}
 use Rattle.vch_model.specs.TextLines.{split_of}
 use Rattle.vch_text.specs.Words.{joined}

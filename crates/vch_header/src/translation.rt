@@ -56,7 +56,7 @@ fn translate_lines(alloc: Global, text: &[u8]) -> Result<Vec<u8>, TranslationFau
 /// second word. All other lines, and the bytes behind the last line feed, stay byte for byte; whether the text is a scenario
 /// is not asked. The form is this project's own.
 ///
-/// The text is gone over once. The want of memory for the new text is the one answer that the old one doesn't decide.
+/// The text is gone over once. That it is out of memory for the new text is the one answer that the old one doesn't decide.
 pub fn translate(alloc: Global, text: &[u8]) -> Result<Vec<u8>, TranslationFault>
     // The text that is answered is the translation, and one that there is is answered.
     ensures found { IfOk result (λ out. IsTranslation text.now out.items) }

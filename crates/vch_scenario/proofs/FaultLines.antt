@@ -6,7 +6,7 @@ use Rattle.vch_scenario.specs.declared.fault.Why.TheVariants.{Form, Range, Limit
 use Rattle.vch_scenario.specs.declared.draft.Draft.{Draft}
 use Rattle.vch_scenario.specs.declared.draft.Place.{Place}
 use Rattle.vch_scenario.specs.declared.draft.Place.TheVariants as places
-use Rattle.vch_scenario.specs.Whole.{At, at_line, IsFitting, is_end, is_empty, step_at, step_of, finish, read_lines, nothing, read_of, Reads}
+use Rattle.vch_scenario.specs.Whole.{At, at_line, IsFitting, is_end, is_empty, step_at, step_of, finish, read_lines, nothing, scenario_of, read_of, Reads}
 use Rattle.vch_model.specs.TextLines.{is_passed, split_of}
 use Rattle.std.proofs.lemmas.Grind.{common_steps}
 use Rattle.vch_scenario.specs.declared.fault.ScenarioFault.{ScenarioFault}
@@ -73,9 +73,9 @@ ok_is : (x y : Draft) → ok_of x ≡ ok_of y → x ≡ y
 ok_is x y e = cc
 
 item_not_passed : (line : List ℕ) (i : Item) → IsLine line i → is_passed line ≡ false
-item_not_passed line items.Title h = ap is_passed (starts line _ h.0 h.1 h.2.parts h.3)
+item_not_passed line (items.Title v) h = ap is_passed (starts line _ h.0 h.1 h.2.parts h.3)
 item_not_passed line (items.Tasks n) h = ap is_passed (starts line _ h.0 h.1 h.2.parts h.3)
-item_not_passed line (items.Task t f) h = ap is_passed (starts line _ h.0 h.1 h.2.parts h.3)
+item_not_passed line (items.Task t f queue) h = ap is_passed (starts line _ h.0 h.1 h.2.parts h.3)
 item_not_passed line items.Phase h = ap is_passed (starts line _ h.0 h.1 h.2.parts h.3)
 item_not_passed line items.End h = ap is_passed (starts line _ h.0 h.1 h.2.parts h.3)
 item_not_passed line (items.Calls l) h = ap is_passed (line_parts line h.0 h.1 h.2.parts) ∙ numeral_not_passed h.0 h.1 l.task h.3
@@ -131,7 +131,7 @@ wrong_of d line why fits o s =
           no_step_wrong d line why fits n here (told_err (NoStep d.place d line) (λ x. IsStep d.place d line x) (stands d line) why (line_told d line fits o) here)
     ]
 
-form_only : (d : Draft) (line : List ℕ) (r : Result Draft Why) → Told (NoStep d.place d line) (λ x. IsStep d.place d line x) r → ((i : Item) → IsLine line i → MayStand d.place i → ⊥) → r ≡ Err Form
+form_only : (d : Draft) (line : List ℕ) (r : Result Draft Why) → Told (NoStep d.place d line) (λ x. IsStep d.place d line x) r → ((i : Item) → IsLine line i → MayStand d.version d.place i → ⊥) → r ≡ Err Form
 form_only d line (Ok e) h none = absurd (none h.0 h.1 h.2)
 form_only d line (Err why) h none =
     elim h [ inl p ↦ ap (λ (w : Why). err_of w) p | inr q ↦ elim q [ inl r ↦ absurd (none r.1 r.2 r.3) | inr r ↦ absurd (none r.1 r.2 r.3) ] ]
@@ -143,9 +143,6 @@ of_wrong d line Limit fits o w = step_here d line o (item_not_passed line w.0 w.
 of_wrong d line Ending fits o w = absurd w
 
 -- ---- all lines
-
-abbrev pub scenario_of : Draft → Scenario
-scenario_of d = record { flags = d.flags; phases = d.phases }
 
 end_cases : (p : Place) (rest : List ℕ) → ((is_end p && is_empty rest ≡ true) × (p ≡ places.End) × (rest ≡ [])) ⊎ ((is_end p && is_empty rest ≡ false) × ((p ≡ places.End) × (rest ≡ []) → ⊥))
 end_cases places.End [] = inl (refl, refl, refl)

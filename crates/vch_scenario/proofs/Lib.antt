@@ -3,13 +3,17 @@ pub mod Fitting
 pub mod Runs
 pub mod Told
 pub mod Formed
+pub mod CommandLines
 pub mod CallLines
 pub mod ItemLines
+pub mod TaskLines
 pub mod StepLines
 pub mod FaultLines
 pub mod ItemRuns
+pub mod Drafts
 pub mod ItemBack
 pub mod Canons
 pub mod Texts
 pub mod OneAnswer
 pub mod Writables
+pub mod CallerLemmas

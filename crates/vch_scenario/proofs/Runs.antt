@@ -32,11 +32,14 @@ fault_read n d l p (stops.Fault why) r s e = sym e ∙ lines_more n d l p ∙ ap
 pub line_read : (n : ℕ) (d e : Draft) (l : List ℕ) (p : List (List ℕ) × List ℕ) (r : Result Scenario At) → step_of d l ≡ Ok e → read_text n d (with_line_before l p) ≡ r → read_text (n + 1) e p ≡ r
 line_read n d e l p r s h = sym (ap (goes_on n p.0 p.1) s) ∙ sym (lines_more n d l p) ∙ h
 
-pub start_read : (flags : List Flags) (phases : List (List Line)) (text : List ℕ) → flags ≡ [] → phases ≡ [] → read_text 1 (record { place = places.Title; tasks = 0; flags = flags; phases = phases; calls = 0 }) (split_of text) ≡ read_of text
+abbrev start : List Flags → List ℕ → List (List Line) → Draft
+start flags queues phases = record { place = places.Title; version = 0; tasks = 0; flags = flags; queues = queues; phases = phases; calls = 0 }
+
+pub start_read : (flags : List Flags) (queues : List ℕ) (phases : List (List Line)) (text : List ℕ) → flags ≡ [] → queues ≡ [] → phases ≡ [] → read_text 1 (start flags queues phases) (split_of text) ≡ read_of text
 unfolding read_of
-start_read flags phases text f p =
-    ap (λ (x : List Flags). read_text 1 (record { place = places.Title; tasks = 0; flags = x; phases = phases; calls = 0 }) (split_of text)) f
-    ∙ ap (λ (x : List (List Line)). read_text 1 (record { place = places.Title; tasks = 0; flags = []; phases = x; calls = 0 }) (split_of text)) p
+start_read flags queues phases text f q p =
+    ap (λ (x : List Flags). read_text 1 (start x queues phases) (split_of text)) f ∙ ap (λ (x : List ℕ). read_text 1 (start [] x phases) (split_of text)) q
+    ∙ ap (λ (x : List (List Line)). read_text 1 (start [] [] x) (split_of text)) p
 
 pub stopped_by : (f g : ScenarioFault) (r : Result Scenario At) → f ≡ g → Stopped f r → Stopped g r
 stopped_by f g r e h = subst (λ (x : ScenarioFault). Stopped x r) e h

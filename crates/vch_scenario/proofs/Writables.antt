@@ -54,7 +54,8 @@ phases_bytes (p ∷ ps) h = let r = first_part (line_items p) (phase_items ps) h
 
 pub scenario_writable : (text : List ℕ) (sc : Scenario) → IsScenario text sc → IsWritable sc
 scenario_writable text sc h =
-    let all = all_bytes (split_of text).0 (items_of sc) h.1 in
-    let a = first_part (task_items 1 sc.flags) (phase_items sc.phases ++ End ∷ []) all.1.1 in
+    let lines = h.1 in
+    let all = all_bytes (split_of text).0 (items_of sc lines.0) lines.2 in
+    let a = first_part (task_items 1 sc.flags lines.0) (phase_items sc.phases ++ End ∷ []) all.1.1 in
     let b = first_part (phase_items sc.phases) (End ∷ []) a.1 in
     record { limited = h.2; bytes = phases_bytes sc.phases b.0 }

@@ -1,11 +1,13 @@
 -- One line of a scenario: the call, the task or the number that it spells, or why it is none.
-use Rattle.std.specs.Prelude.{ℕ, Bool, true, false, ◌&&◌, nat_lt, nat_le, ◌==◌, if◌then◌else◌, List, Result, Ok, Err, codes}
+use Rattle.std.specs.Prelude.{ℕ, Bool, true, false, ◌&&◌, nat_lt, nat_le, ◌==◌, if◌then◌else◌, List, [], ◌∷◌, Option, Some, None, Result, Ok, Err, codes}
 use Rattle.vch_model.specs.declared.call.Call.{Call}
 use Rattle.vch_model.specs.declared.call.Call.TheVariants as calls
 use Rattle.vch_model.specs.declared.call.Line.{Line}
 use Rattle.vch_model.specs.declared.call.Word.{Word}
 use Rattle.vch_model.specs.declared.call.Word.TheVariants as words
 use Rattle.vch_base.specs.declared.flags.Flags.{Flags}
+use Rattle.vch_base.specs.declared.limits.TheConstants.{MOST_TASKS, USUAL_QUEUE, LARGEST_QUEUE}
+use Rattle.vch_scenario.specs.declared.task.TaskLine.{TaskLine}
 use Rattle.vch_scenario.specs.declared.fault.Why.{Why}
 use Rattle.vch_scenario.specs.declared.fault.Why.TheVariants.{Form, Range}
 use Rattle.vch_scenario.specs.Reading.{◌>>=◌, formed}
@@ -18,8 +20,9 @@ use Rattle.vch_model.specs.Grammar.{top}
 unfoldable pub fit : ℕ → Result ℕ Why
 fit n = if nat_lt n top then Ok n else Err Range
 
-unfoldable pub verb_of : List ℕ → Result Word Why
-verb_of w =
+-- the word of a call. An exit is one of version 2 alone
+unfoldable pub verb_of : ℕ → List ℕ → Result Word Why
+verb_of version w =
     if is_word w (codes "create") then Ok words.Create
     else if is_word w (codes "drop") then Ok words.GiveUp
     else if is_word w (codes "extract") then Ok words.Extract
@@ -31,6 +34,7 @@ verb_of w =
     else if is_word w (codes "ledger") then Ok words.Ledger
     else if is_word w (codes "assertions") then Ok words.Assertions
     else if is_word w (codes "live") then Ok words.Live
+    else if version == 2 && is_word w (codes "exit") then Ok words.Exit
     else Err Form
 
 -- which of two words it is
@@ -110,49 +114,87 @@ call_by words.Charge rest = charge_of rest
 call_by words.Ledger rest = bare_of calls.Ledger rest
 call_by words.Assertions rest = bare_of calls.Assertions rest
 call_by words.Live rest = bare_of calls.Live rest
+call_by words.Exit rest = bare_of calls.Exit rest
 
 -- what stands behind the task in a line
-unfoldable pub call_of : List ℕ → Result Call Why
-call_of rest = do
+unfoldable pub call_of : ℕ → List ℕ → Result Call Why
+call_of version rest = do
   w ← formed (word_at rest)
-  verb ← verb_of w.0
+  verb ← verb_of version w.0
   call_by verb w.1
 
--- a task among so many
-unfoldable pub task_among : ℕ → ℕ → Result ℕ Why
-task_among tasks t = if nat_lt 0 t && nat_le t tasks then Ok t else Err Range
+-- a number from 1 to the most
+unfoldable pub up_to : ℕ → ℕ → Result ℕ Why
+up_to most n = if nat_lt 0 n && nat_le n most then Ok n else Err Range
 
--- a call line
-unfoldable pub line_of : ℕ → List ℕ → Result Line Why
-line_of tasks line = do
+-- a call line of the version, where there are so many tasks
+unfoldable pub line_of : ℕ → ℕ → List ℕ → Result Line Why
+line_of version tasks line = do
   t ← formed (number_of top (front_of 32 line).0)
-  call ← call_of (front_of 32 line).1
-  task ← task_among tasks t
+  call ← call_of version (front_of 32 line).1
+  task ← up_to tasks t
   Ok (record { task = task; call = call })
 
-unfoldable pub flags_of : List ℕ → Result Flags Why
-flags_of rest =
-    if is_word rest (codes "") then Ok (record { donor = false; receiver = false })
-    else if is_word rest (codes " donor") then Ok (record { donor = true; receiver = false })
-    else if is_word rest (codes " receiver") then Ok (record { donor = false; receiver = true })
-    else if is_word rest (codes " donor receiver") then Ok (record { donor = true; receiver = true })
-    else Err Form
+-- whether the next word is this text, and what is left: where it isn't, all
+abbrev pub flag_by : List ℕ → List ℕ → Option (List ℕ × List ℕ) → Bool × List ℕ
+flag_by text rest None = (false, rest)
+flag_by text rest (Some w) = if is_word w.0 text then (true, w.1) else (false, rest)
+
+unfoldable pub flag_at : List ℕ → List ℕ → Bool × List ℕ
+flag_at text rest = flag_by text rest (word_at rest)
 
 -- the word that a line begins with
 unfoldable pub word_is : List ℕ → List ℕ → Result (Unit {0}) Why
 word_is text w = if is_word w text then Ok tt else Err Form
 
+-- the limit that a line writes of a queue
+unfoldable pub written_queue : List ℕ → Result ℕ Why
+written_queue rest = do
+  w ← formed (word_at rest)
+  done ← word_is (codes "queue") w.0
+  n ← formed (one_of top w.1)
+  Ok n
+
+-- the same, or none where nothing is left. A text of version 1 writes none
+abbrev pub queue_of : ℕ → List ℕ → Result (Option ℕ) Why
+queue_of version [] = Ok None
+queue_of version (c ∷ cs) = if version == 2 then (written_queue (c ∷ cs) >>= λ n. Ok (Some n)) else Err Form
+
+-- what stands behind the number of a task
+unfoldable pub tail_of : ℕ → List ℕ → Result (Flags × Option ℕ) Why
+tail_of version rest = do
+  queue ← queue_of version (flag_at (codes "receiver") (flag_at (codes "donor") rest).1).1
+  Ok (record { donor = (flag_at (codes "donor") rest).0; receiver = (flag_at (codes "receiver") (flag_at (codes "donor") rest).1).0 }, queue)
+
+-- the limit of a queue, and the usual one where none is written
+unfoldable pub limit_of : Option ℕ → Result ℕ Why
+limit_of None = Ok USUAL_QUEUE
+limit_of (Some n) = up_to LARGEST_QUEUE n
+
+-- that the number is this one
+unfoldable pub number_is : ℕ → ℕ → Result (Unit {0}) Why
+number_is wanted n = if n == wanted then Ok tt else Err Range
+
 -- the line of the task with this number
-unfoldable pub task_of : ℕ → List ℕ → Result Flags Why
-task_of number line = do
+unfoldable pub task_of : ℕ → ℕ → List ℕ → Result TaskLine Why
+task_of version number line = do
   done ← word_is (codes "task") (front_of 32 line).0
   t ← formed (number_at top (front_of 32 line).1)
-  flags ← flags_of t.1
-  if t.0 == number then Ok flags else Err Range
+  tail ← tail_of version t.1
+  same ← number_is number t.0
+  limit ← limit_of tail.1
+  Ok (record { flags = tail.0; queue = limit })
 
 -- the number of tasks
 unfoldable pub tasks_of : List ℕ → Result ℕ Why
 tasks_of line = do
   done ← word_is (codes "tasks") (front_of 32 line).0
   n ← formed (one_of top (front_of 32 line).1)
-  task_among 64 n
+  up_to MOST_TASKS n
+
+-- the version of the text
+unfoldable pub version_of : List ℕ → Result ℕ Why
+version_of line =
+    if is_word line (codes "vouch 1") then Ok 1
+    else if is_word line (codes "vouch 2") then Ok 2
+    else Err Form

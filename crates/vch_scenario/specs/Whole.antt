@@ -14,7 +14,8 @@ use Rattle.vch_scenario.specs.declared.draft.Place.{Place}
 use Rattle.vch_scenario.specs.declared.draft.Place.TheVariants as places
 use Rattle.vch_scenario.specs.Reading.{◌>>=◌}
 use Rattle.vch_text.specs.Words.{is_word}
-use Rattle.vch_scenario.specs.Calls.{word_is, tasks_of, task_of, line_of}
+use Rattle.vch_base.specs.declared.limits.TheConstants.{MOST_TASKS, MOST_PHASES, MOST_CALLS}
+use Rattle.vch_scenario.specs.Calls.{word_is, version_of, tasks_of, task_of, line_of}
 
 -- the line of a fault, and why
 pub record At : Type 0 where
@@ -27,21 +28,21 @@ is_empty (c ∷ cs) = false
 
 unfoldable pub title_of : Draft → List ℕ → Result Draft Why
 title_of d line = do
-  done ← word_is (codes "vouch 1") line
-  Ok (record d { place = places.Tasks })
+  version ← version_of line
+  Ok (record d { place = places.Tasks; version = version })
 
 unfoldable pub count_of : Draft → List ℕ → Result Draft Why
 count_of d line = do
   n ← tasks_of line
   Ok (record d { place = places.Task; tasks = n })
 
-unfoldable pub flags_in : Draft → List ℕ → Result Draft Why
-flags_in d line = do
-  f ← task_of (length d.flags + 1) line
-  Ok (record d { place = if length d.flags + 1 == d.tasks then places.Phase else places.Task; flags = d.flags ++ f ∷ [] })
+unfoldable pub task_in : Draft → List ℕ → Result Draft Why
+task_in d line = do
+  t ← task_of d.version (length d.flags + 1) line
+  Ok (record d { place = if length d.flags + 1 == d.tasks then places.Phase else places.Task; flags = d.flags ++ t.flags ∷ []; queues = d.queues ++ t.queue ∷ [] })
 
 unfoldable pub phase_in : Draft → Result Draft Why
-phase_in d = if nat_lt (length d.phases) 1024 then Ok (record d { place = places.Call; phases = d.phases ++ [] ∷ [] }) else Err Limit
+phase_in d = if nat_lt (length d.phases) MOST_PHASES then Ok (record d { place = places.Call; phases = d.phases ++ [] ∷ [] }) else Err Limit
 
 unfoldable pub first_in : Draft → List ℕ → Result Draft Why
 first_in d line = do
@@ -50,8 +51,8 @@ first_in d line = do
 
 unfoldable pub call_in : Draft → List ℕ → Result Draft Why
 call_in d line = do
-  l ← line_of d.tasks line
-  if nat_lt d.calls 16384 then Ok (record d { phases = with_line d.phases l; calls = d.calls + 1 }) else Err Limit
+  l ← line_of d.version d.tasks line
+  if nat_lt d.calls MOST_CALLS then Ok (record d { phases = with_line d.phases l; calls = d.calls + 1 }) else Err Limit
 
 unfoldable pub next_in : Draft → List ℕ → Result Draft Why
 next_in d line =
@@ -62,7 +63,7 @@ next_in d line =
 abbrev pub step_at : Place → Draft → List ℕ → Result Draft Why
 step_at places.Title d line = title_of d line
 step_at places.Tasks d line = count_of d line
-step_at places.Task d line = flags_in d line
+step_at places.Task d line = task_in d line
 step_at places.Phase d line = first_in d line
 step_at places.Call d line = next_in d line
 step_at places.End d line = Err Ending
@@ -75,9 +76,13 @@ is_end p = false
 unfoldable pub step_of : Draft → List ℕ → Result Draft Why
 step_of d line = if is_end d.place then Err Ending else if is_passed line then Ok d else step_at d.place d line
 
+-- the scenario that was read
+abbrev pub scenario_of : Draft → Scenario
+scenario_of d = record { version = d.version; flags = d.flags; queues = d.queues; phases = d.phases }
+
 unfoldable pub finish : ℕ → Draft → List ℕ → Result Scenario At
 finish n d rest =
-    if is_end d.place && is_empty rest then Ok (record { flags = d.flags; phases = d.phases }) else Err (record { line = n; why = Ending })
+    if is_end d.place && is_empty rest then Ok (scenario_of d) else Err (record { line = n; why = Ending })
 
 abbrev pub at_line : ℕ → Why → At
 at_line n why = record { line = n; why = why }
@@ -88,7 +93,7 @@ read_lines n d [] rest = finish n d rest
 read_lines n d (l ∷ lines) rest = elim (step_of d l) [ Ok e ↦ read_lines (n + 1) e lines rest | Err why ↦ Err (at_line n why) ]
 
 abbrev pub nothing : Draft
-nothing = record { place = places.Title; tasks = 0; flags = []; phases = []; calls = 0 }
+nothing = record { place = places.Title; version = 0; tasks = 0; flags = []; queues = []; phases = []; calls = 0 }
 
 abbrev pub read_text : ℕ → Draft → List (List ℕ) × List ℕ → Result Scenario At
 read_text n d parts = read_lines n d parts.0 parts.1
@@ -114,9 +119,9 @@ Reads (Err e) read = Stopped e read
 abbrev pub FitsAt : Place → Draft → Type 0
 FitsAt places.Title d = length d.flags ≡ 0
 FitsAt places.Tasks d = length d.flags ≡ 0
-FitsAt places.Task d = (length d.flags < d.tasks) × (d.tasks ≤ 64)
-FitsAt places.Phase d = d.tasks ≤ 64
-FitsAt places.Call d = (1 ≤ length d.phases) × (d.tasks ≤ 64)
+FitsAt places.Task d = (length d.flags < d.tasks) × (d.tasks ≤ MOST_TASKS)
+FitsAt places.Phase d = d.tasks ≤ MOST_TASKS
+FitsAt places.Call d = (1 ≤ length d.phases) × (d.tasks ≤ MOST_TASKS)
 FitsAt p d = Unit {0}
 
 abbrev pub IsFitting : Draft → Type 0

@@ -3,7 +3,7 @@ ghost use Rattle.vch_scenario.specs.Reading.{Tells, Gives};
 ghost use Rattle.vch_scenario.specs.Calls as calls;
 
 use crate::fault::{Stop, Why};
-use crate::task::task_among;
+use crate::task::up_to;
 use std::alloc::Global;
 use vch_model::{Call, Line, Word};
 use vch_text::{
@@ -22,10 +22,10 @@ fn fit(n: u64) -> Result<u32, Why>
     }
 }
 
-/// The call that a word names.
+/// The call that a word names in a text of the version.
 #[tactic(auto, unfolding(crate::specs::Calls::verb_of))]
-fn verb(word: &[u8]) -> Result<Word, Why>
-    ensures { Tells (λ x. x) result (calls.verb_of word.now) }
+fn verb(version: u32, word: &[u8]) -> Result<Word, Why>
+    ensures { Tells (λ x. x) result (calls.verb_of version word.now) }
 {
     if is_word(word, b"create") {
         return Ok(Word::Create);
@@ -59,6 +59,9 @@ fn verb(word: &[u8]) -> Result<Word, Why>
     }
     if is_word(word, b"live") {
         return Ok(Word::Live);
+    }
+    if version == 2 && is_word(word, b"exit") {
+        return Ok(Word::Exit);
     }
     Err(Why::Form)
 }
@@ -189,6 +192,7 @@ fn small_call(verb: Word, rest: &[u8]) -> Result<Call, Why>
         Word::Ledger => bare(Call::Ledger, rest),
         Word::Assertions => bare(Call::Assertions, rest),
         Word::Live => bare(Call::Live, rest),
+        Word::Exit => bare(Call::Exit, rest),
     }
 }
 
@@ -204,22 +208,22 @@ fn call_by(alloc: Global, verb: Word, rest: &[u8]) -> Result<Call, Stop>
 
 /// What stands behind the task in a line.
 #[tactic(auto, unfolding(crate::specs::Calls::call_of))]
-fn call(alloc: Global, rest: &[u8]) -> Result<Call, Stop>
-    ensures { Gives (λ x. x) result (calls.call_of rest.now) }
+fn call(alloc: Global, version: u32, rest: &[u8]) -> Result<Call, Stop>
+    ensures { Gives (λ x. x) result (calls.call_of version rest.now) }
 {
     let (name, rest) = word(rest).ok_or(Why::Form)?;
-    let verb = verb(name)?;
+    let verb = verb(version, name)?;
     call_by(alloc, verb, rest)
 }
 
-/// A call line, where there are so many tasks.
+/// A call line of the version, where there are so many tasks.
 #[tactic(auto, unfolding(crate::specs::Calls::line_of))]
-pub fn line_of(alloc: Global, tasks: u32, line: &[u8]) -> Result<Line, Stop>
-    ensures { Gives (λ x. x) result (calls.line_of tasks line.now) }
+pub fn line_of(alloc: Global, version: u32, tasks: u32, line: &[u8]) -> Result<Line, Stop>
+    ensures { Gives (λ x. x) result (calls.line_of version tasks line.now) }
 {
     let (t, rest) = front(b' ', line);
     let t = number(t).ok_or(Why::Form)?;
-    let call = call(alloc, rest)?;
-    let task = task_among(tasks, t)?;
+    let call = call(alloc, version, rest)?;
+    let task = up_to(tasks, t)?;
     Ok(Line { task, call })
 }

@@ -27,7 +27,6 @@ mod task;
 mod tests;
 mod writer;
 
-pub use draft::{MOST_CALLS, MOST_PHASES, MOST_TASKS};
 pub use fault::{ScenarioFault, Why};
 pub use laws::{one_answer, round_trip};
 pub use reader::read;

@@ -1,5 +1,6 @@
 ghost use Rattle.std.specs.Prelude.{◌≡◌, ◌≢◌, ◌<◌, ◌≤◌, ◌+◌, ◌∷◌, ◌++◌, [], ℕ, List, length, codes, IfSome, IfNone, IfOk};
 ghost use Rattle.vch_scenario.specs.Reading.{Gives, Tells};
+ghost use Rattle.vch_base.specs.declared.limits.TheConstants.{MOST_TASKS};
 ghost use Rattle.vch_scenario.specs.Whole as whole;
 ghost use Rattle.vch_scenario.specs.Faults.{IsFault, IsUnlessMemory};
 ghost use Rattle.vch_model.specs.Scenarios.{IsScenario};
@@ -8,11 +9,12 @@ ghost use Rattle.vch_model.specs.declared.lists.Scenario.{Scenario};
 ghost use Rattle.vch_scenario.specs.declared.fault.Why.{Why};
 
 use crate::call::line_of;
-use crate::draft::{Draft, MOST_CALLS, MOST_PHASES, Place};
+use crate::draft::{Draft, Place};
 use crate::fault::{ScenarioFault, Stop, Why};
-use crate::task::{task_of, tasks_of, word_is};
+use crate::task::{task_of, tasks_of, version_of, word_is};
 use std::alloc::Global;
-use vch_model::{FlagList, LineList, PhaseList, Scenario};
+use vch_base::limits::{MOST_CALLS, MOST_PHASES};
+use vch_model::{FlagList, LineList, PhaseList, QueueList, Scenario};
 use vch_text::{is_word, next_line};
 
 /// The first line.
@@ -20,9 +22,10 @@ use vch_text::{is_word, next_line};
 fn title(draft: Draft, line: &[u8]) -> Result<Draft, Why>
     ensures { Tells (λ d. d) result (whole.title_of draft line.now) }
 {
-    word_is(b"vouch 1", line)?;
+    let version = version_of(line)?;
     Ok(Draft {
         place: Place::Tasks,
+        version,
         ..draft
     })
 }
@@ -41,14 +44,15 @@ fn count(draft: Draft, line: &[u8]) -> Result<Draft, Why>
 }
 
 /// The next task.
-#[tactic(auto, unfolding(crate::specs::Whole::flags_in))]
+#[tactic(auto, unfolding(crate::specs::Whole::task_in))]
 fn task(mut draft: Draft, line: &[u8]) -> Result<Draft, Stop>
-    requires { length draft.flags < 64 }
-    ensures { Gives (λ d. d) result (whole.flags_in draft line.now) }
+    requires { length draft.flags < MOST_TASKS }
+    ensures { Gives (λ d. d) result (whole.task_in draft line.now) }
 {
     let number = draft.flags.len() as u32 + 1;
-    let flags = task_of(number, line)?;
-    draft.flags.push(flags)?;
+    let task = task_of(draft.version, number, line)?;
+    draft.flags.push(task.flags)?;
+    draft.queues.push(task.queue)?;
     draft.place = if number == draft.tasks {
         Place::Phase
     } else {
@@ -85,7 +89,7 @@ fn call(alloc: Global, mut draft: Draft, line: &[u8]) -> Result<Draft, Stop>
     requires { 1 ≤ length draft.phases }
     ensures { Gives (λ d. d) result (whole.call_in draft line.now) }
 {
-    let line = line_of(alloc, draft.tasks, line)?;
+    let line = line_of(alloc, draft.version, draft.tasks, line)?;
     if draft.calls >= MOST_CALLS {
         return Err(Stop::Fault { why: Why::Limit });
     }
@@ -161,7 +165,9 @@ fn finish(number: u32, draft: Draft, rest: &[u8]) -> Result<Scenario, ScenarioFa
 {
     if is_end(draft.place) && rest.is_empty() {
         Ok(Scenario {
+            version: draft.version,
             flags: draft.flags,
+            queues: draft.queues,
             phases: draft.phases,
         })
     } else {
@@ -189,8 +195,10 @@ fn read_lines(alloc: Global, bytes: &[u8]) -> Result<Scenario, ScenarioFault>
 {
     let mut draft = Draft {
         place: Place::Title,
+        version: 0,
         tasks: 0,
         flags: FlagList::new(alloc),
+        queues: QueueList::new(alloc),
         phases: PhaseList::new(alloc),
         calls: 0,
     };

@@ -19,6 +19,15 @@ const ONE_AGAIN: &str =
 const CALLS: &str =
     "vouch 1\ntasks 3\ntask 1\ntask 2 donor receiver\ntask 3 receiver\nphase\nphase\n1 create -\n2 create 00ff\n1 drop 4294967295\n1 extract 1 7\n1 recipes 0\n3 send 2 copy 0 0\n3 send 4294967295 move 1 2\n2 recv\n2 extern 1 add 3\n2 extern 1 drop 4\n1 charge 9 70\n1 ledger\n2 assertions\n3 live\nend\n";
 
+/// Two tasks whose queues have one message and the largest number of them, and one with the usual number; they give up all
+/// that they have.
+const LIMITED: &str =
+    "vouch 2\ntasks 3\ntask 1\ntask 2 queue 1\ntask 3 donor receiver queue 1024\nphase\n1 create 07000000d300000000000000020000006162\n1 send 2 copy 1 1\n1 exit\n2 exit\n3 exit\n1 extract 1 8\nend\n";
+
+/// The same with the usual number written, and a line that is passed over.
+const LIMITED_AGAIN: &str =
+    "vouch 2\ntasks 3\ntask 1 queue 5\n#\ntask 2 queue 1\ntask 3 donor receiver queue 1024\nphase\n1 create 07000000D300000000000000020000006162\n1 send 2 copy 1 1\n1 exit\n2 exit\n3 exit\n1 extract 1 8\nend\n";
+
 /// What is told of a text: that it is a scenario's, or the fault.
 fn told(alloc: Global, text: &[u8]) -> Result<String, AllocError> {
     if text.len() >= 4294967295 {
@@ -47,6 +56,8 @@ fn canonical_texts(rt: HostRuntime) -> Result<(), Fail> {
         (ONE_AGAIN, ONE),
         (SERVICE, SERVICE),
         (CALLS, CALLS),
+        (LIMITED, LIMITED),
+        (LIMITED_AGAIN, LIMITED),
     ] {
         let Some(found) = canonical(a, text.as_bytes()) else {
             return Err(Fail::new("no canonical text"));
@@ -212,6 +223,62 @@ fn each_broken_text_has_its_first_fault(rt: HostRuntime) -> Result<(), Fail> {
             .as_str(),
         "no memory"
     );
+    Ok(())
+}
+
+/// The version of a text of two tasks, the line of its first task, and what is told where nothing follows.
+const TASK_LINES: [(u32, &str, &str); 24] = [
+    (1, "task 1 donor receiver", "fault line 4 why ending"),
+    (1, "task 1 queue 5", "fault line 3 why form"),
+    (1, "task 1 queue 0", "fault line 3 why form"),
+    (1, "task 1 donor queue 6", "fault line 3 why form"),
+    (2, "task 1 queue 5", "fault line 4 why ending"),
+    (2, "task 1 queue 1", "fault line 4 why ending"),
+    (2, "task 1 donor queue 1024", "fault line 4 why ending"),
+    (
+        2,
+        "task 1 donor receiver queue 6",
+        "fault line 4 why ending",
+    ),
+    (2, "task 1 queue 0", "fault line 3 why range"),
+    (2, "task 1 queue 1025", "fault line 3 why range"),
+    (2, "task 1 queue 4294967301", "fault line 3 why range"),
+    (2, "task 2 queue 1", "fault line 3 why range"),
+    (2, "task 2 queue 0", "fault line 3 why range"),
+    (2, "task 2 queue 05", "fault line 3 why form"),
+    (2, "task 1 queue 5 donor", "fault line 3 why form"),
+    (2, "task 1 donor queue 5 receiver", "fault line 3 why form"),
+    (2, "task 1 receiver donor", "fault line 3 why form"),
+    (2, "task 1 queue 5 queue 5", "fault line 3 why form"),
+    (2, "task 1 queue", "fault line 3 why form"),
+    (2, "task 1 queue ", "fault line 3 why form"),
+    (2, "task 1 queue 5 ", "fault line 3 why form"),
+    (2, "task 1  queue 5", "fault line 3 why form"),
+    (2, "task 1 queue5", "fault line 3 why form"),
+    (2, "task 1 Queue 5", "fault line 3 why form"),
+];
+
+/// The version of a text of one task, a line in its first phase, and what is told where nothing follows.
+const EXITS: [(u32, &str, &str); 6] = [
+    (1, "1 exit", "fault line 5 why form"),
+    (1, "2 exit", "fault line 5 why form"),
+    (2, "1 exit", "fault line 6 why ending"),
+    (2, "2 exit", "fault line 5 why range"),
+    (2, "1 exit 1", "fault line 5 why form"),
+    (2, "1 exits", "fault line 5 why form"),
+];
+
+#[test]
+fn queues_and_exits_are_of_version_2(rt: HostRuntime) -> Result<(), Fail> {
+    let a = rt.alloc();
+    for (version, line, want) in TASK_LINES {
+        let text = format!(in a; "vouch {version}\ntasks 2\n{line}\n")?;
+        assert_eq!(rt; told(a, text.as_bytes())?.as_str(), want, "{line}");
+    }
+    for (version, line, want) in EXITS {
+        let text = format!(in a; "vouch {version}\ntasks 1\ntask 1\nphase\n{line}\n")?;
+        assert_eq!(rt; told(a, text.as_bytes())?.as_str(), want, "{line}");
+    }
     Ok(())
 }
 

@@ -8,3 +8,4 @@ pub mod Decimals
 pub mod Hexes
 pub mod Plain
 pub mod Amounts
+pub mod CallerLemmas

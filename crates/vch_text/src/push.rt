@@ -5,7 +5,7 @@ use itoa::{Buffer, Integer};
 use std::alloc::Global;
 use vch_base::NoMemory;
 
-/// Appends bytes. On want of memory, the one error here and below, nothing is appended.
+/// Appends bytes. Where it is out of memory, the one error here and below, nothing is appended.
 pub fn push_text(out: &mut Vec<u8>, text: &[u8]) -> Result<(), NoMemory>
     ensures ok { OnOk result (out.new.items ≡ out.old.items ++ text.now) }
     ensures err { OnErr result (out.new.items ≡ out.old.items) }

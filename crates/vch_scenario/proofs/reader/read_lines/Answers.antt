@@ -6,7 +6,7 @@ use Rattle.vch_scenario.proofs.Fitting.{step_fits}
 use Rattle.vch_scenario.proofs.reader.read_lines.Goals as goal
 
 pub loop-line-init : goal.loop-line-init
-loop-line-init c = record { fitting = ap length c.new.ensures; counted = omega arith; same = start_read c.new.result c.new-2.result c.args.bytes.now c.new.ensures c.new-2.ensures }
+loop-line-init c = record { fitting = ap length c.new.ensures; counted = omega arith; same = start_read c.new.result c.new-2.result c.new-3.result c.args.bytes.now c.new.ensures c.new-2.ensures c.new-3.ensures }
 
 pub returns-in-Err : goal.returns-in-Err
 returns-in-Err c =

@@ -1,7 +1,6 @@
 use Rattle.std.proofs.Common.{◌≡◌, ◌++◌, take}
-use Rattle.vch_model.specs.Scenarios.{task_items}
-use Rattle.vch_model.specs.Canonical.{items_text}
+use Rattle.vch_scenario.proofs.Texts.{tasks_text}
 use Rattle.vch_scenario.proofs.writer.push_tasks.Given as goal
 
 abbrev pub invariant-loop-i : goal.invariant-loop-i
-invariant-loop-i l = l.out.items ≡ l.initial.out.items ++ items_text (task_items 1 (take l.i l.flags))
+invariant-loop-i l = l.out.items ≡ l.initial.out.items ++ tasks_text 1 (take l.i l.flags) l.queues

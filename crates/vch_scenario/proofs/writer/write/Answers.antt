@@ -13,8 +13,8 @@ read_again text sc e w = subst (λ (x : List ℕ). IsScenario x sc) (sym e) (can
 pub returns : goal.returns
 returns c =
     let sc = c.args.scenario.now in
-    let text = c.push_text-3.new.out.items in
-    let canonical : text ≡ Canon sc = written sc c.new-out.result.items c.push_text.new.out.items c.push_number.new.out.items c.push_text-2.new.out.items c.push_tasks.new.out.items c.push_phases.new.out.items text
-    c.new-out.ensures.items c.in_ok-push_text.ensures.ok (c.in_ok-push_number.ensures.ok ∙ ap (λ n. c.push_text.new.out.items ++ decimal n) c.len.ensures) c.in_ok-push_text-2.ensures.ok c.in_ok-push_tasks.ensures c.in_ok-push_phases.ensures
-    c.in_ok-push_text-3.ensures.ok in
+    let text = c.push_text-4.new.out.items in
+    let canonical : text ≡ Canon sc = written sc c.new-out.result.items c.push_text.new.out.items c.push_number.new.out.items c.push_text-2.new.out.items c.push_number-2.new.out.items c.push_text-3.new.out.items c.push_tasks.new.out.items
+    c.push_phases.new.out.items text c.new-out.ensures.items c.in_ok-push_text.ensures.ok c.in_ok-push_number.ensures.ok c.in_ok-push_text-2.ensures.ok
+    (c.in_ok-push_number-2.ensures.ok ∙ ap (λ n. c.push_text-2.new.out.items ++ decimal n) c.len.ensures) c.in_ok-push_text-3.ensures.ok c.in_ok-push_tasks.ensures c.in_ok-push_phases.ensures c.in_ok-push_text-4.ensures.ok in
     record { canonical = canonical; again = λ w. read_again text sc canonical w }
