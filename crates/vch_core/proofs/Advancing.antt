@@ -10,9 +10,7 @@ use Rattle.vch_model.specs.declared.entry.Entry.TheVariants as entries
 use Rattle.vch_machine.specs.Frames.{noted}
 use Rattle.vch_machine.specs.Events.{phase_event}
 use Rattle.vch_legal.specs.Facts.{bit}
-use Rattle.vch_legal.proofs.AtRest.{task_of}
-use Rattle.vch_legal.proofs.PhaseCounts.{lines_with_phase}
-use Rattle.vch_legal.proofs.Turns.{count_cons}
+use Rattle.vch_legal.proofs.CallerLemmas.{task_of, lines_with_phase, count_cons}
 use Rattle.vch_state.specs.declared.parts.Parts.{Parts}
 use Rattle.vch_state.specs.declared.frames.Working.{Working}
 use Rattle.vch_state.specs.Plain.{begun_of}
@@ -20,7 +18,8 @@ use Rattle.vch_state.specs.Bounds.{IsOfTask}
 use Rattle.vch_state.specs.Reached.{Reached}
 use Rattle.vch_core.specs.declared.turn.Cursor.{Cursor}
 use Rattle.vch_core.specs.Turning.{Goes, IsPassed, IsCursor, CursorAt, AreBegun, lines_of_task, seen_after, rewound}
-use Rattle.vch_core.proofs.Framed.{reach, from_state, begun_same}
+use Rattle.vch_core.proofs.Framed.{reach, from_state}
+use Rattle.vch_state.proofs.CallerLemmas.{own_begun}
 use Rattle.vch_core.proofs.Growing.{Grows, event_grows}
 use Rattle.vch_core.proofs.Waiting.{same_phase, phase_of_tasks}
 
@@ -104,8 +103,8 @@ after_event p q t r f =
     record {
       phase = same_phase q y.0 y.2 ∙ g.phases ∙ sym (same_phase p x.m x.state);
       begun = λ u task.
-          let a : begun_of p.frames u ≡ (tasked x.m u).begun = begun_same p x.m u x.stands task in
-          let b : begun_of q.frames u ≡ (tasked y.0 u).begun = begun_same q y.0 u (from_state q y.0 y.2).1 (subst (λ sc. is_task sc u ≡ true) (sym f.scenario) task) in
+          let a : begun_of p.frames u ≡ (tasked x.m u).begun = own_begun p x.m u x.stands task in
+          let b : begun_of q.frames u ≡ (tasked y.0 u).begun = own_begun q y.0 u (from_state q y.0 y.2).1 (subst (λ sc. is_task sc u ≡ true) (sym f.scenario) task) in
           let d = g.begun u in
           omega (arith, a, b, d);
     }

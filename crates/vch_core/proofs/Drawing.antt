@@ -11,7 +11,7 @@ use Rattle.vch_machine.specs.State.{Machine}
 use Rattle.vch_machine.specs.Events.{numbers, ready}
 use Rattle.vch_machine.specs.Next.{next_kind}
 use Rattle.vch_machine.specs.Schedules.{picked, seed_after, next_seed, drawn}
-use Rattle.vch_legal.proofs.Turns.{all_tasks}
+use Rattle.vch_legal.proofs.CallerLemmas.{all_tasks}
 use Rattle.vch_state.specs.declared.parts.Parts.{Parts}
 use Rattle.vch_state.specs.Reached.{Reached, Stands, IsNext}
 use Rattle.vch_core.specs.Turning.{all_of, AreReady, IsDraw, IsResting, CanGo}

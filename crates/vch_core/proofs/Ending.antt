@@ -8,13 +8,11 @@ use Rattle.vch_model.specs.Scenarios.{line_count}
 use Rattle.vch_machine.specs.State.{Machine, start}
 use Rattle.vch_machine.specs.Events.{ready}
 use Rattle.vch_machine.specs.Schedules.{Move, happens, run, run_from_start, in_turn, by_seed, move_of, lowest_open, turn_task, picked, seed_after, has_ended}
-use Rattle.vch_legal.specs.Left.{left}
-use Rattle.vch_legal.proofs.Runs.{reached_stands}
-use Rattle.vch_legal.proofs.Bounds.{move_lowers, run_bounded}
-use Rattle.vch_legal.proofs.LineSums.{start_few}
+use Rattle.vch_legal.specs.Left.{left, largest_call}
+use Rattle.vch_legal.proofs.CallerLemmas.{reached_stands, move_lowers, run_bounded, start_few}
 use Rattle.vch_state.specs.declared.parts.Parts.{Parts}
 use Rattle.vch_state.specs.Reached.{Reached, Stands}
-use Rattle.vch_state.proofs.RunOn.{run_on}
+use Rattle.vch_state.proofs.CallerLemmas.{run_on}
 use Rattle.vch_core.specs.Runs.{RunsTo, EndsInTurn, EndsBySeed}
 use Rattle.vch_core.specs.Turning.{all_of, IsTurn, IsDraw, Goes, Turns, Draws}
 use Rattle.vch_core.proofs.Framed.{reach}
@@ -34,7 +32,7 @@ pub spares_first : (p : Parts) → Reached p → Spares p 0
 spares_first p r =
     let x = reach p r in
     let a : length x.moves + left p.scenario x.m ≤ left p.scenario (start p.scenario) = run_bounded p.scenario x.moves x.m x.run in
-    let b : left p.scenario (start p.scenario) ≤ 409690 * line_count p.scenario.phases + length p.scenario.phases = start_few p.scenario in
+    let b : left p.scenario (start p.scenario) ≤ largest_call * line_count p.scenario.phases + length p.scenario.phases = start_few p.scenario in
     let c = x.limited.calls in
     let d = x.limited.phases in
     record { moves = x.moves; m = x.m; run = x.run; stands = x.state; few = omega (arith, a, b, c, d) }
@@ -60,7 +58,7 @@ never_spent p count l s = let a = s.few in omega (arith, a, l)
 
 -- What is wanted.
 
--- memory is wanted at one move more
+-- memory is out at one move more
 abbrev pub and_at : ℕ → Bool → (ℕ → Bool) → ℕ → Bool
 and_at n want wants i = if i == n then want else wants i
 

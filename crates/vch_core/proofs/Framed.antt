@@ -1,5 +1,5 @@
 -- What a reached core tells of a task: that a frame has a next event.
-use Rattle.std.proofs.Common.{◌≡◌, ℕ, zero, suc, get_or, ◌-◌, ◌<◌, ◌≤◌, Bool, true, false, List, [], ◌∷◌, refl, sym, ap, ◌∙◌, arith, subst, length, Option, Some, None, IsTrue}
+use Rattle.std.proofs.Common.{◌≡◌, ℕ, ◌<◌, ◌≤◌, Bool, true, false, List, [], ◌∷◌, refl, sym, ap, ◌∙◌, arith, subst, Option, Some, None, IsTrue}
 use Rattle.std.specs.Prelude.{is_some, IsSome, ◌↔◌, nat_lt}
 use Rattle.std.proofs.lemmas.Grind.{common_steps}
 use Rattle.vch_base.specs.declared.kind.Kind.{Kind}
@@ -11,18 +11,15 @@ use Rattle.vch_machine.specs.State.{Machine, tasked}
 use Rattle.vch_machine.specs.Next.{next_kind, current}
 use Rattle.vch_machine.specs.Events.{event}
 use Rattle.vch_machine.specs.Schedules.{Move, run_from_start}
-use Rattle.vch_legal.proofs.Runs.{reached_stands}
-use Rattle.vch_legal.proofs.Turns.{opened_next}
+use Rattle.vch_legal.proofs.CallerLemmas.{reached_stands, opened_next}
 use Rattle.vch_state.specs.declared.parts.Parts.{Parts}
-use Rattle.vch_ports.specs.Names.{Names}
-use Rattle.vch_state.specs.declared.frames.Working.{Working}
 use Rattle.vch_state.specs.declared.frame.Frame.{Frame}
-use Rattle.vch_state.specs.Plain.{Plain, frame_of, begun_of, part_of, idle_part, resting}
+use Rattle.vch_state.specs.Plain.{Plain, frame_of, part_of}
 use Rattle.vch_state.specs.Shape.{Optional, IsFrame}
 use Rattle.vch_state.specs.Bounds.{Limited}
 use Rattle.vch_state.specs.Stands.{StandsFor}
-use Rattle.vch_state.specs.Reached.{IsState, IsEnd, IsEventBy, MayFollow, Reached, Stands, IsNext, plain_of, parts_in}
-use Rattle.vch_state.proofs.Glue.{own_frame, in_parts}
+use Rattle.vch_state.specs.Reached.{IsState, IsEnd, IsEventBy, MayFollow, Reached, Stands, IsNext, plain_of}
+use Rattle.vch_state.proofs.CallerLemmas.{own_frame, in_parts}
 use Rattle.vch_core.specs.Steps.{IsFrameNext}
 
 -- a state that the parts stand for, and a run that ends there
@@ -130,18 +127,6 @@ not_ended a b c i e = test (nat_lt b a) refl
     test : (d : Bool) → nat_lt b a ≡ d → b < a
     test true g = grind (arith, common_steps)
     test false g = let l : a ≤ b = grind (arith, common_steps) in absurd (by c (i.1 l) e)
-
--- the calls that a task has begun
-pub begun_same : (p : Parts) (m : Machine) (t : ℕ) → StandsFor p.scenario (keys.User ∷ []) (plain_of p) m → is_task p.scenario t ≡ true → begun_of p.frames t ≡ (tasked m t).begun
-begun_same p m t s task =
-    let n = in_parts p.scenario (keys.User ∷ []) (plain_of p) m t s task in
-    sym (parts_begun p.spaces p.frames (t - 1) n.1) ∙ (s.shape.tasks t n.0 n.1).begun
-  where
-    parts_begun : (ss : List Names) (fs : List Working) (i : ℕ) → i < length (parts_in ss fs) → (get_or (parts_in ss fs) i idle_part).begun ≡ (get_or fs i resting).begun
-    parts_begun [] fs i l = absurd (omega arith)
-    parts_begun (s ∷ ss) [] i l = absurd (omega arith)
-    parts_begun (s ∷ ss) (x ∷ fs) zero l = refl
-    parts_begun (s ∷ ss) (x ∷ fs) (suc i) l = parts_begun ss fs i (omega arith)
 
 pub when_ended : (a b : ℕ) (c : Bool) → IsTrue c ↔ (a ≤ b) → c ≡ true → a ≤ b
 when_ended a b c i e = i.0 (to_true c e)

@@ -5,9 +5,9 @@ use Rattle.std.specs.List.{AllByRecursion}
 use Rattle.vch_base.specs.declared.kind.Kind.{Kind}
 use Rattle.vch_model.specs.declared.lists.Scenario.{Scenario}
 use Rattle.vch_machine.specs.Events.{ready}
-use Rattle.vch_legal.proofs.Turns.{number_of_all}
+use Rattle.vch_legal.proofs.CallerLemmas.{number_of_all}
 use Rattle.vch_state.specs.Phases.{IsOver, IsPhaseEnd, PhaseFollows}
-use Rattle.vch_state.proofs.PhaseEnds.{over_of, number_within}
+use Rattle.vch_state.proofs.CallerLemmas.{over_of, number_within}
 use Rattle.vch_machine.specs.State.{Machine}
 use Rattle.vch_machine.specs.Next.{next_kind}
 use Rattle.vch_state.specs.declared.parts.Parts.{Parts}

@@ -5,7 +5,7 @@ use Rattle.std.proofs.lemmas.Grind.{common_steps}
 use Rattle.vch_machine.specs.State.{Machine, tasked}
 use Rattle.vch_machine.specs.Events.{numbers}
 use Rattle.vch_machine.specs.Schedules.{lowest_open}
-use Rattle.vch_legal.proofs.AtRest.{task_of}
+use Rattle.vch_legal.proofs.CallerLemmas.{task_of}
 use Rattle.vch_state.specs.declared.parts.Parts.{Parts}
 use Rattle.vch_state.specs.declared.frames.Working.{Working}
 use Rattle.vch_state.specs.Plain.{frame_of}

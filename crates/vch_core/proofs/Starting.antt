@@ -7,13 +7,11 @@ use Rattle.vch_model.specs.declared.call.Line.{Line}
 use Rattle.vch_model.specs.declared.lists.Scenario.{Scenario}
 use Rattle.vch_model.specs.Lines.{lines_of, lines_until}
 use Rattle.vch_model.specs.Scenarios.{line_count}
-use Rattle.vch_legal.proofs.LineSums.{lines_of_tasks, all_of_tasks}
-use Rattle.vch_legal.proofs.PhaseCounts.{lines_with_phase}
-use Rattle.vch_legal.proofs.PhaseLines.{no_lines}
+use Rattle.vch_legal.proofs.CallerLemmas.{lines_of_tasks, all_of_tasks, lines_with_phase, no_lines}
 use Rattle.vch_state.specs.declared.parts.Parts.{Parts}
 use Rattle.vch_state.specs.Bounds.{IsOfTask}
 use Rattle.vch_state.specs.Reached.{Reached}
-use Rattle.vch_state.proofs.Glue.{task_number}
+use Rattle.vch_state.proofs.CallerLemmas.{task_number}
 use Rattle.vch_core.specs.declared.turn.Cursor.{Cursor}
 use Rattle.vch_core.specs.Turning as turning
 use Rattle.vch_core.specs.Turning.{IsCursor, current_lines, lines_of_task}

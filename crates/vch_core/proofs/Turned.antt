@@ -1,20 +1,20 @@
 -- Whose turn it is can go.
 use Rattle.std.proofs.Common.{◌≡◌, ℕ, ◌<◌, true, false, List, [], ◌∷◌, length, sym, ap, ◌∙◌, refl, Option, Some, None}
-use Rattle.std.specs.Prelude.{is_some}
+use Rattle.std.specs.Prelude.{is_some, if◌then◌else◌}
+use Rattle.std.specs.List.{AllByRecursion}
 use Rattle.vch_base.specs.declared.kind.Kind.{Kind}
-use Rattle.vch_model.specs.Lines.{is_task}
-use Rattle.vch_machine.specs.State.{Machine, tasked, is_empty}
-use Rattle.vch_machine.specs.Events.{ready}
-use Rattle.vch_machine.specs.Next.{next_kind}
+use Rattle.vch_base.specs.declared.kind.Kind.TheVariants as kinds
+use Rattle.vch_model.specs.declared.lists.Scenario.{Scenario}
+use Rattle.vch_model.specs.Lines.{is_task, phases_in}
+use Rattle.vch_machine.specs.State.{Machine, tasked}
+use Rattle.vch_machine.specs.Events.{ready, is_at_rest}
+use Rattle.vch_machine.specs.Next.{next_kind, task_next}
 use Rattle.vch_machine.specs.Schedules.{turn_task}
-use Rattle.vch_legal.proofs.Runs.{reached_stands}
-use Rattle.vch_legal.proofs.Turns.{opened_next, lowest_none, number_of_all, all_numbers}
-use Rattle.vch_legal.proofs.AtRest.{task_of}
-use Rattle.vch_legal.proofs.ScheduleRuns.{waiting_next, resting, none_are_ready}
+use Rattle.vch_legal.proofs.CallerLemmas.{reached_stands, opened_next, lowest_none, number_of_all, all_numbers, task_of, waiting_next, resting, task_rests}
 use Rattle.vch_state.specs.declared.parts.Parts.{Parts}
 use Rattle.vch_state.specs.Plain.{frame_of}
 use Rattle.vch_state.specs.Reached.{Reached, Stands}
-use Rattle.vch_state.proofs.NextKinds.{next_agrees}
+use Rattle.vch_state.proofs.CallerLemmas.{next_agrees}
 use Rattle.vch_create.specs.Called.{HasNext}
 use Rattle.vch_core.specs.Turning.{all_of, IsTurn, IsLowest, IsWaiting, IsTaskOrNone, OfFrame, IsResting, CanGo}
 use Rattle.vch_core.proofs.Framed.{Reach, reach, frame_same, is_there}
@@ -42,9 +42,15 @@ pub waiting_turn : (p : Parts) (choice : Option ℕ) → IsLowest p None → IsW
 unfolding IsLowest IsWaiting IsTurn
 waiting_turn p choice l w m s = ap (turn_task p.scenario m) (l m s) ∙ w m s
 
-empty_is : (xs : List ℕ) → is_empty xs ≡ true → xs ≡ []
-empty_is [] e = refl
-empty_is (x ∷ xs) e = absurd (cc)
+-- a task at rest has no next event
+rest_next : (sc : Scenario) (m : Machine) (t : ℕ) → is_at_rest sc (phases_in m.past) t (tasked m t) ≡ true → is_some (next_kind sc m t) ≡ false
+rest_next sc m t e =
+    let r = task_rests sc m t e in
+    ap (λ o. is_some (task_next sc (phases_in m.past) t (tasked m t) o)) r.frame ∙ ap (λ b. is_some (if b then Some kinds.Begin else None)) r.begun
+
+none_are_ready : (sc : Scenario) (m : Machine) (ts : List ℕ) → AllByRecursion (λ t. is_some (next_kind sc m t) ≡ false) ts → ready sc m ts ≡ []
+none_are_ready sc m [] h = refl
+none_are_ready sc m (t ∷ ts) h = rw h.0 (none_are_ready sc m ts h.1)
 
 some_false : (o : Option Kind) → is_some o ≡ false → o ≡ None
 some_false None e = refl
@@ -54,10 +60,10 @@ pub waiting_can : (p : Parts) (choice : Option ℕ) → Reached p → p.phase < 
 unfolding IsLowest IsWaiting IsResting
 waiting_can p None r left l w o = (
   left,
-  λ n b. empty_is (ready p.scenario n (all_of p.scenario)) (none_are_ready p.scenario n (all_of p.scenario)
+  λ n b. none_are_ready p.scenario n (all_of p.scenario)
       (all_numbers (λ t. is_some (next_kind p.scenario n t) ≡ false) (length p.scenario.flags)
       (λ t a c. ap is_some (same_next p t x.m n (task_of p.scenario t a c) x.state b)
-      ∙ resting p.scenario x.m t (reached_stands p.scenario x.moves x.m x.run) (task_of p.scenario t a c)
+      ∙ rest_next p.scenario x.m t (resting p.scenario x.m t (reached_stands p.scenario x.moves x.m x.run) (task_of p.scenario t a c)
       (number_of_all (λ u. is_some (tasked x.m u).frame ≡ false) (length p.scenario.flags) (lowest_none x.m (all_of p.scenario) (l x.m x.state)) t a c) (w x.m x.state)))),
 )
   where

@@ -10,7 +10,7 @@ use Rattle.vch_model.specs.declared.lists.Scenario.{Scenario}
 use Rattle.vch_model.specs.Lines.{is_task, phases_in}
 use Rattle.vch_machine.specs.State.{Machine, tasked}
 use Rattle.vch_machine.specs.Schedules.{first_waiting}
-use Rattle.vch_legal.proofs.AtRest.{task_of}
+use Rattle.vch_legal.proofs.CallerLemmas.{task_of, count_cons}
 use Rattle.vch_state.specs.declared.parts.Parts.{Parts}
 use Rattle.vch_state.specs.declared.frames.Working.{Working}
 use Rattle.vch_state.specs.Plain.{begun_of}
@@ -19,10 +19,9 @@ use Rattle.vch_state.specs.Reached.{Reached, Stands}
 use Rattle.vch_core.specs.declared.turn.Cursor.{Cursor}
 use Rattle.vch_core.specs.Turning.{IsWaiting, AreBegun, IsCursor, seen_after, lines_before, current_lines}
 use Rattle.vch_legal.specs.Facts.{bit}
-use Rattle.vch_legal.proofs.Turns.{count_cons}
-use Rattle.vch_state.proofs.Glue.{task_number}
+use Rattle.vch_state.proofs.CallerLemmas.{task_number, own_begun}
 use Rattle.vch_core.proofs.Passing.{set_count}
-use Rattle.vch_core.proofs.Framed.{reach, from_state, begun_same}
+use Rattle.vch_core.proofs.Framed.{reach, from_state}
 
 -- the lines of a phase are of tasks
 pub phase_of_tasks : (n : ℕ) (phases : List (List Line)) (i : ℕ) → AreOfTasks n phases → AllByRecursion (IsOfTask n) (get_or phases i [])
@@ -39,7 +38,7 @@ passes : (p : Parts) (m : Machine) (seen : List ℕ) (xs ys : List Line) → Sta
     → AreBegun p.scenario (phases_in m.past) p.frames seen xs → first_waiting p.scenario m seen (xs ++ ys) ≡ first_waiting p.scenario m (seen_after seen xs) ys
 passes p m seen [] ys s of b = refl
 passes p m seen (x ∷ xs) ys s of b =
-    let e : begun_of p.frames x.task ≡ (tasked m x.task).begun = begun_same p m x.task (from_state p m s).1 (task_of p.scenario x.task of.0.0 of.0.1) in
+    let e : begun_of p.frames x.task ≡ (tasked m x.task).begun = own_begun p m x.task (from_state p m s).1 (task_of p.scenario x.task of.0.0 of.0.1) in
     let l : lines_before p.scenario (phases_in m.past) seen x.task < (tasked m x.task).begun = subst (λ n. lines_before p.scenario (phases_in m.past) seen x.task < n) e b.0 in
     let t : nat_lt (lines_before p.scenario (phases_in m.past) seen x.task) (tasked m x.task).begun ≡ true = grind (arith, common_steps) in
     rw t (passes p m (x.task ∷ seen) xs ys s of.1 b.1)
@@ -76,7 +75,7 @@ at_line p cursor c x e =
 pub waits : (p : Parts) (cursor : Cursor) (c : IsCursor p cursor) (x : Line) → AtLine p cursor c x → is_task p.scenario x.task ≡ true → begun_of p.frames x.task ≤ get_or cursor.passed (x.task - 1) 0 → IsWaiting p (Some x.task)
 unfolding IsWaiting
 waits p cursor c x a task l m s =
-    let e : begun_of p.frames x.task ≡ (tasked m x.task).begun = begun_same p m x.task (from_state p m s).1 task in
+    let e : begun_of p.frames x.task ≡ (tasked m x.task).begun = own_begun p m x.task (from_state p m s).1 task in
     let g : get_or cursor.passed (x.task - 1) 0 ≡ lines_before p.scenario p.phase (seen_after [] c.passed_lines) x.task = c.passed x.task task in
     let h : lines_before p.scenario p.phase (seen_after [] c.passed_lines) x.task ≡ lines_before p.scenario (phases_in m.past) (seen_after [] c.passed_lines) x.task = ap (λ n. lines_before p.scenario n (seen_after [] c.passed_lines) x.task) (same_phase p m s) in
     let k : (tasked m x.task).begun ≤ lines_before p.scenario (phases_in m.past) (seen_after [] c.passed_lines) x.task = omega (arith, e, g, h, l) in

@@ -41,7 +41,7 @@ abbrev pub CanGo : Parts → Option ℕ → Type 0
 CanGo p None = (p.phase < length p.scenario.phases) × IsResting p
 CanGo p (Some t) = (is_task p.scenario t ≡ true) × HasNext p t
 
--- the move that was chosen was made, with memory wanted or not
+-- the move that was chosen was made, with memory out or not
 pub record Goes (choice : Option ℕ) (old new : Parts) : Type 0 where
   pub scenario : new.scenario ≡ old.scenario
   pub want : Bool

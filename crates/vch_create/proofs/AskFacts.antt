@@ -19,12 +19,11 @@ use Rattle.vch_model.specs.Lines.{is_task}
 use Rattle.vch_model.specs.declared.call.Call.{Call}
 use Rattle.vch_model.specs.declared.call.Call.TheVariants as calls
 use Rattle.vch_machine.specs.State as machine
-use Rattle.vch_machine.specs.State.{of_key, Handles, Living, Named, Machine, tasked, living_at, value_at}
+use Rattle.vch_base.specs.Keyed.{of_key}
+use Rattle.vch_machine.specs.State.{Handles, Living, Named, Machine, tasked, living_at, value_at}
 use Rattle.vch_machine.specs.Making.{asked_by, previous_of, or_map}
 use Rattle.vch_machine.specs.Naming.{handles_of}
-use Rattle.vch_legal.proofs.Forming.{LiveAt}
-use Rattle.vch_legal.proofs.SeenNames.{LiveAll, AllLive}
-use Rattle.vch_legal.proofs.HeldLive.{forming_live, names_live}
+use Rattle.vch_legal.proofs.CallerLemmas.{LiveAt, LiveAll, AllLive, forming_live, names_live}
 use Rattle.vch_state.specs.declared.frame.Frame.{Frame}
 use Rattle.vch_state.specs.declared.parts.Parts.{Parts}
 use Rattle.vch_state.specs.Plain.{Plain, frame_of, names_of, number_at}
@@ -33,9 +32,7 @@ use Rattle.vch_state.specs.Pictures.{picture_of}
 use Rattle.vch_state.specs.Bounds.{Limited}
 use Rattle.vch_state.specs.Stands.{StandsFor, IsLiving}
 use Rattle.vch_state.specs.Reached.{plain_of, parts_in, IsNext, Stands, value_kind}
-use Rattle.vch_state.proofs.Glue.{there_of}
-use Rattle.vch_state.proofs.Maps.{at_key}
-use Rattle.vch_state.proofs.Spending.{refers_bound}
+use Rattle.vch_state.proofs.CallerLemmas.{there_of, at_key, refers_bound}
 use Rattle.vch_create.specs.Works.{voucher_of}
 use Rattle.vch_create.specs.Makes as makes
 use Rattle.vch_create.specs.Makes.{IsQuestion, IsAsked, Answers, receipts_in, previous_in}
@@ -193,7 +190,7 @@ module _ (p : Parts) (t : ℕ) (task : is_task p.scenario t ≡ true) (next : Is
         (forming_live p.scenario m t g w sm.fits y.twin (ap (λ (x : machine.Frame). x.forming) y.both.twin))
 
     pub previous_is_live : IfSome (previous_handle p.user_entries.slots (index_of keys.User V)) (λ h. IsSome (live_at p.user.slots h))
-    previous_is_live = subst (λ o. IfSome o (λ h. IsSome (live_at p.user.slots h))) (sym handle_is) (by (of_key keys.User W) all_live.user)
+    previous_is_live = subst (λ o. IfSome o (λ h. IsSome (live_at p.user.slots h))) (sym handle_is) (by (of_key keys.User W) (all_live keys.User))
       where
         by : (o : Option ℕ) → LiveAt m.live keys.User o → IfSome o (λ h. IsSome (live_at p.user.slots h))
         by None l = tt

@@ -13,7 +13,7 @@ use Rattle.vch_state.specs.declared.parts.Parts.{Parts}
 use Rattle.vch_state.specs.Plain.{frame_of, begun_of}
 use Rattle.vch_state.specs.Reached.{Reached, IsNext}
 use Rattle.vch_model.specs.UserOnly.{IsUserCall, IsUserOnly}
-use Rattle.vch_state.proofs.CallsFound.{no_more}
+use Rattle.vch_state.proofs.CallerLemmas.{no_more}
 use Rattle.vch_create.specs.Begins.{demand_of}
 use Rattle.vch_create.specs.declared.begin.Demand.TheVariants as of
 use Rattle.vch_create.proofs.BeginEvent.{begin_few, twin_is, number_is, kind_is}
@@ -32,6 +32,7 @@ demanded (calls.Charge name n) u e = u
 demanded calls.Ledger u e = u
 demanded calls.Assertions u e = u
 demanded calls.Live u e = u
+demanded calls.Exit u e = u
 
 no_line : (o : Option (ℕ × Line)) → call_in o ≡ None → o ≡ None
 no_line None e = refl

@@ -1,8 +1,8 @@
 -- From what the code of Begin does for a create to what the event does.
 use Rattle.std.proofs.Common.{◌≡◌, ℕ, ◌+◌, ◌-◌, ◌*◌, ◌<◌, ◌≤◌, Bool, true, false, cond, List, [], ◌∷◌, ◌++◌, refl, arith, sym, ap, ◌∙◌, length, subst, Option, Some, None}
-use Rattle.std.proofs.Math.ListN.{set}
 use Rattle.std.proofs.lemmas.Grind.{common_steps}
-use Rattle.std.proofs.lemmas.List.{get_or-set_same, set-set, length-set}
+use Rattle.vch_base.specs.Tasks.{set_task}
+use Rattle.vch_base.proofs.CallerLemmas.{own_item, set_twice, as_long}
 use Rattle.vch_base.specs.declared.key.Key.{Key}
 use Rattle.vch_base.specs.declared.key.Key.TheVariants as keys
 use Rattle.vch_base.specs.declared.kind.Kind.TheVariants as kinds
@@ -17,13 +17,14 @@ use Rattle.vch_model.specs.Lines.{is_task, lines_of}
 use Rattle.vch_model.specs.Rows.{Entries}
 use Rattle.vch_model.specs.Words.{word_of}
 use Rattle.vch_machine.specs.State as machine
-use Rattle.vch_machine.specs.State.{of_key, no_handles, Machine, Tasked, tasked}
+use Rattle.vch_base.specs.Keyed.{of_key}
+use Rattle.vch_machine.specs.State.{no_handles, Machine, Tasked, tasked}
 use Rattle.vch_machine.specs.Beginning.{fresh_frame, store_reply}
 use Rattle.vch_machine.specs.Events.{event}
 use Rattle.vch_machine.specs.Frames as frames
 use Rattle.vch_machine.specs.Frames.{replied}
 use Rattle.vch_machine.specs.Next.{next_kind, nth_call}
-use Rattle.vch_legal.proofs.Keeps.{event_keeps}
+use Rattle.vch_legal.proofs.CallerLemmas.{event_keeps}
 use Rattle.vch_state.specs.declared.frame.Frame.{Frame}
 use Rattle.vch_state.specs.declared.frame.Claiming.{Claiming}
 use Rattle.vch_state.specs.declared.frames.Working.{Working}
@@ -35,8 +36,7 @@ use Rattle.vch_state.specs.Bounds.{rank, makes, open_of, flying_of}
 use Rattle.vch_state.specs.Stands.{StandsFor}
 use Rattle.vch_state.specs.Reached.{plain_of, parts_in, IsState, IsEvent, IsNext, Follows, Reached}
 use Rattle.vch_model.specs.UserOnly.{IsUserOnly, AsksUserOnly}
-use Rattle.vch_state.proofs.Glue.{own_frame, in_parts, from_reached}
-use Rattle.vch_state.proofs.Maps.{map_empty}
+use Rattle.vch_state.proofs.CallerLemmas.{own_frame, in_parts, from_reached, map_empty}
 use Rattle.vch_create.specs.Begins.{IsCreateOf, is_answered, answer}
 use Rattle.vch_create.proofs.BeginMachine.{counted, begins, begun_here, framed_here, answered}
 use Rattle.vch_create.proofs.Begun.{Fresh, new_parts, new_machine, begun_stands}
@@ -57,6 +57,7 @@ create_of n (Some (calls.Charge name k)) P e h = absurd e
 create_of n (Some calls.Ledger) P e h = absurd e
 create_of n (Some calls.Assertions) P e h = absurd e
 create_of n (Some calls.Live) P e h = absurd e
+create_of n (Some calls.Exit) P e h = absurd e
 
 -- what begins: a call that is answered, or an empty map
 
@@ -97,25 +98,26 @@ formed_fresh k bytes few = record {
     nothing keys.Importance = refl
     nothing keys.Bank = refl
     nothing keys.User = refl
+    nothing keys.Test = refl
 
     within : (n : ℕ) → n ≤ 5120 → 0 + (16 * n + 12) ≤ 100000
     within n l = omega arith
 
 formed_related : (c : Plain) (bytes : List ℕ) → AsksUserOnly bytes → IsFrame c (Some (calls.Create bytes)) fresh_parts (fresh_frame no_handles [])
-formed_related c bytes user = record { forming = map_empty c; at_byte = refl; keys_ = refl; receipt = tt; lets = tt; claim = tt; forms = user; takes = tt }
+formed_related c bytes user = record { forming = map_empty c; answered = refl; at_byte = refl; keys_ = refl; receipt = tt; lets = tt; claim = tt; forms = user; takes = tt }
 
 -- frames of which one begins a call and gets a frame
-pub frames_begin : (fs : List Working) (t : ℕ) (f : Option Frame) → t - 1 < length fs → with_frame_of (with_begun_of fs t) t f ≡ set fs (t - 1) (record { begun = begun_of fs t + 1; frame = f })
-frames_begin fs t f l =
+pub frames_begin : (fs : List Working) (t : ℕ) (f : Option Frame) → 0 < t → t ≤ length fs → with_frame_of (with_begun_of fs t) t f ≡ set_task fs t (record { begun = begun_of fs t + 1; frame = f })
+frames_begin fs t f p l =
     let w : Working = record { begun = begun_of fs t + 1; frame = frame_of fs t } in
-    ap (λ (x : Working). set (set fs (t - 1) w) (t - 1) (record x { frame = f })) (get_or-set_same fs (t - 1) w resting l) ∙ set-set fs (t - 1) w (record { begun = begun_of fs t + 1; frame = f })
+    ap (λ (x : Working). set_task (set_task fs t w) t (record x { frame = f })) (own_item fs t w resting p l) ∙ set_twice fs t w (record { begun = begun_of fs t + 1; frame = f })
 
 module _ (p : Parts) (t : ℕ) (task : is_task p.scenario t ≡ true) (r : Reached p) where
   pub begin_range : (0 < t) × (t ≤ length p.frames)
   begin_range = from_reached p _ r (λ m limited s. own_range p m t s task)
 
   pub begun_range : (frames2 : List Working) → frames2 ≡ with_begun_of p.frames t → (0 < t) × (t ≤ length frames2)
-  begun_range frames2 e = (begin_range.0, subst (λ n. t ≤ n) (sym (ap length e ∙ length-set p.frames (t - 1) (record { begun = begun_of p.frames t + 1; frame = frame_of p.frames t }))) begin_range.1)
+  begun_range frames2 e = (begin_range.0, subst (λ n. t ≤ n) (sym (ap length e ∙ as_long p.frames t (record { begun = begun_of p.frames t + 1; frame = frame_of p.frames t }))) begin_range.1)
 
   pub begin_few : begun_of p.frames t < 4294967295
   begin_few = from_reached p _ r (λ m limited s.
@@ -199,12 +201,12 @@ module _ (p : Parts) (t : ℕ) (task : is_task p.scenario t ≡ true) (r : Reach
             told_related (event_keeps p.scenario want t m Told s.fits (told_happens want))
 
         told_tasks : parts_in p.spaces frames2 ≡ ToldParts.tasks
-        told_tasks = ap (parts_in p.spaces) begun ∙ parts_set p.spaces p.frames (t - 1) (record { begun = begun_of p.frames t + 1; frame = frame_of p.frames t })
-            ∙ ap (λ n. set (parts_in p.spaces p.frames) (t - 1) (record (part_of (plain_of p) t) { begun = n + 1; frame = frame_of p.frames t })) (sym (own_begun p m t s task))
-            ∙ ap (λ f. set (parts_in p.spaces p.frames) (t - 1) (record (part_of (plain_of p) t) { begun = (part_of (plain_of p) t).begun + 1; frame = f })) (sym (own_frame p m t s task))
+        told_tasks = ap (parts_in p.spaces) begun ∙ parts_set p.spaces p.frames t (record { begun = begun_of p.frames t + 1; frame = frame_of p.frames t })
+            ∙ ap (λ n. set_task (parts_in p.spaces p.frames) t (record (part_of (plain_of p) t) { begun = n + 1; frame = frame_of p.frames t })) (sym (own_begun p m t s task))
+            ∙ ap (λ f. set_task (parts_in p.spaces p.frames) t (record (part_of (plain_of p) t) { begun = (part_of (plain_of p) t).begun + 1; frame = f })) (sym (own_frame p m t s task))
 
         told_number : begun_of p.frames t + 1 ≡ (tasked (counted p.scenario m t) t).begun
-        told_number = ap (λ n. n + 1) (number_is m st s) ∙ sym (ap (λ (x : Tasked). x.begun) (begun_here p.scenario m t (inside m st s)))
+        told_number = ap (λ n. n + 1) (number_is m st s) ∙ sym (ap (λ (x : Tasked). x.begun) (begun_here p.scenario m t (range m st s).0 (inside m st s)))
 
         told_reply : answer size ≡ store_reply p.scenario m t (calls.Create bytes)
         told_reply = ap answer (sym long) ∙ sym (answered p.scenario m t bytes at_once_bytes)
@@ -260,16 +262,16 @@ module _ (p : Parts) (t : ℕ) (task : is_task p.scenario t ≡ true) (r : Reach
         formed_happens : (want : Bool) → event p.scenario want m t ≡ Some Formed
         formed_happens want = begins p.scenario m t want (calls.Create bytes) task (twin_is m st s) (kind_is m st s) (call_is m st s (calls.Create bytes) there)
             ∙ ap (λ b. Some (cond b (replied (counted p.scenario m t) t (calls.Create bytes) (store_reply p.scenario m t (calls.Create bytes))) (frames.with_frame (counted p.scenario m t) t (Some G)))) later_bytes
-            ∙ ap Some (framed_here p.scenario m t (Some G) (inside m st s))
+            ∙ ap Some (framed_here p.scenario m t (Some G) (range m st s).0 (inside m st s))
 
         formed_stands : (want : Bool) → StandsFor p.scenario (keys.User ∷ []) FormedParts Formed
         formed_stands want = begun_stands p.scenario keys.User (plain_of p) m t (range m st s).0 (range m st s).1 s (calls.Create bytes) (Some fresh_parts) (Some G) None formed_is_fresh (own_is m st s) (twin_is m st s) (call_is m st s (calls.Create bytes) there)
             (formed_related FormedParts bytes (user_call p.scenario t (begun_of p.frames t + 1) (calls.Create bytes) built there)) (event_keeps p.scenario want t m Formed s.fits (formed_happens want))
 
         formed_tasks : parts_in p.spaces frames2 ≡ FormedParts.tasks
-        formed_tasks = ap (parts_in p.spaces) (put ∙ frames_begin p.frames t (Some fresh_parts) (omega (arith, (own_range p m t s task).1, (range m st s).0)))
-            ∙ parts_set p.spaces p.frames (t - 1) (record { begun = begun_of p.frames t + 1; frame = Some fresh_parts })
-            ∙ ap (λ n. set (parts_in p.spaces p.frames) (t - 1) (record (part_of (plain_of p) t) { begun = n + 1; frame = Some fresh_parts })) (sym (own_begun p m t s task))
+        formed_tasks = ap (parts_in p.spaces) (put ∙ frames_begin p.frames t (Some fresh_parts) (own_range p m t s task).0 (own_range p m t s task).1)
+            ∙ parts_set p.spaces p.frames t (record { begun = begun_of p.frames t + 1; frame = Some fresh_parts })
+            ∙ ap (λ n. set_task (parts_in p.spaces p.frames) t (record (part_of (plain_of p) t) { begun = n + 1; frame = Some fresh_parts })) (sym (own_begun p m t s task))
 
         spare_same : p.history.spare ≡ p.history.spare - 0
         spare_same = omega arith

@@ -1,7 +1,7 @@
 -- Begin of a create in the machine.
-use Rattle.std.proofs.Common.{◌≡◌, ℕ, ◌+◌, ◌-◌, ◌<◌, ◌==◌, nat_lt, ◌||◌, Bool, true, false, cond, List, refl, ap, ◌∙◌, length, Option, Some, None}
-use Rattle.std.proofs.Math.ListN.{set}
-use Rattle.std.proofs.lemmas.List.{get_or-set_same, set-set}
+use Rattle.std.proofs.Common.{◌≡◌, arith, ℕ, ◌+◌, ◌-◌, ◌<◌, ◌==◌, nat_lt, ◌||◌, Bool, true, false, cond, List, refl, ap, ◌∙◌, length, Option, Some, None}
+use Rattle.vch_base.specs.Tasks.{set_task}
+use Rattle.vch_base.proofs.CallerLemmas.{set_twice, own_item}
 use Rattle.vch_base.specs.declared.kind.Kind.TheVariants as kinds
 use Rattle.vch_model.specs.declared.call.Call.{Call}
 use Rattle.vch_model.specs.declared.call.Call.TheVariants as calls
@@ -29,14 +29,14 @@ module _ (sc : Scenario) (m : Machine) (t : ℕ) where
       ∙ ap (λ o. event_of sc want m t None o) next
       ∙ ap (begin_line sc want m t) there
 
-  pub begun_here : t - 1 < length m.tasks → tasked counted t ≡ begun_one (tasked m t)
-  begun_here inside = get_or-set_same m.tasks (t - 1) (begun_one (tasked m t)) idle inside
+  pub begun_here : 0 < t → t - 1 < length m.tasks → tasked counted t ≡ begun_one (tasked m t)
+  begun_here positive inside = own_item m.tasks t (begun_one (tasked m t)) idle positive (omega (arith, inside))
 
   -- with a frame
-  pub framed_here : (g : Option Frame) → t - 1 < length m.tasks → with_frame counted t g ≡ with_tasked m t (record (tasked m t) { begun = (tasked m t).begun + 1; frame = g })
-  framed_here g inside = ap (λ ts. record m { tasks = ts })
-      (ap (λ (x : Tasked). set (set m.tasks (t - 1) (begun_one (tasked m t))) (t - 1) (record x { frame = g })) (begun_here inside)
-      ∙ set-set m.tasks (t - 1) (begun_one (tasked m t)) (record (tasked m t) { begun = (tasked m t).begun + 1; frame = g }))
+  pub framed_here : (g : Option Frame) → 0 < t → t - 1 < length m.tasks → with_frame counted t g ≡ with_tasked m t (record (tasked m t) { begun = (tasked m t).begun + 1; frame = g })
+  framed_here g positive inside = ap (λ ts. record m { tasks = ts })
+      (ap (λ (x : Tasked). set_task (set_task m.tasks t (begun_one (tasked m t))) t (record x { frame = g })) (begun_here positive inside)
+      ∙ set_twice m.tasks t (begun_one (tasked m t)) (record (tasked m t) { begun = (tasked m t).begun + 1; frame = g }))
 
   -- the store's reply to a create that needs no frame
   pub answered : (bytes : List ℕ) → is_answered (length bytes) ≡ true → store_reply sc m t (calls.Create bytes) ≡ answer (length bytes)

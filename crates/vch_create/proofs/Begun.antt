@@ -1,6 +1,6 @@
 -- A task begins a call, with a frame or without: what the parts stand for then.
-use Rattle.std.proofs.Common.{◌≡◌, ℕ, ◌+◌, ◌-◌, ◌<◌, ◌≤◌, List, [], ◌∷◌, refl, arith, sym, ap, ◌∙◌, length, subst, Option, Some, None}
-use Rattle.std.proofs.Math.ListN.{set}
+use Rattle.std.proofs.Common.{◌≡◌, ℕ, ◌+◌, ◌-◌, ◌<◌, ◌≤◌, List, [], ◌∷◌, refl, arith, sym, ap, ◌∙◌, length, get_or, subst, Option, Some, None}
+use Rattle.vch_base.specs.Tasks.{set_task}
 use Rattle.std.specs.List.{flat_map}
 use Rattle.vch_base.specs.declared.key.Key.{Key}
 use Rattle.vch_base.specs.Managers.{count}
@@ -13,14 +13,12 @@ use Rattle.vch_machine.specs.State.{Machine, Tasked, tasked}
 use Rattle.vch_machine.specs.Next.{current, nth_call}
 use Rattle.vch_legal.specs.Facts.{Fits}
 use Rattle.vch_state.specs.declared.frame.Frame.{Frame}
-use Rattle.vch_state.specs.Plain.{Plain, Part, part_of}
-use Rattle.vch_state.specs.Shape.{Optional, IsIndexOf, IsFrame, IsTask, IsTable}
+use Rattle.vch_state.specs.Plain.{Plain, Part, part_of, idle_part}
+use Rattle.vch_state.specs.Shape.{Optional, IsIndexOf, IsFrame, IsTask, IsTable, referred_by}
 use Rattle.vch_state.specs.Pictures.{cell_holds, frame_holds, receipts_of, frame_claimed}
 use Rattle.vch_state.specs.Bounds.{rank, makes, open_of, flying_of, unanswered_in}
 use Rattle.vch_state.specs.Stands.{StandsFor}
-use Rattle.vch_state.proofs.Replaced.{referred_set}
-use Rattle.vch_state.proofs.Spending.{Paid}
-use Rattle.vch_state.proofs.Stable.{task_stays}
+use Rattle.vch_state.proofs.CallerLemmas.{at_place, set_place, referred_set, Paid, task_stays}
 use Rattle.vch_create.proofs.CallsUser.{call_within}
 use Rattle.vch_create.proofs.OneTask.{noted, size, then_parts, then_machine, stands_one}
 
@@ -61,8 +59,14 @@ module _ (sc : Scenario) (k : Key) (c : Plain) (m : Machine) (t : ℕ) (positive
   own_task related = let z : IsTask new_parts (current sc m t) (part_of c t) (tasked m t) = stays t positive inside in
       record { names = z.names; next = z.next; queue = z.queue; begun = ap (λ n. n + 1) z.begun; frame = rw next related }
 
-  same_table : IsTable c.table (set c.tasks (t - 1) x)
-  same_table = record { refs = λ r. s.shape.table.refs r ∙ sym (referred_set r c.tasks (t - 1) x inside refl refl); vouchers = s.shape.table.vouchers }
+  same_references : (r : ℕ) → referred_by r (set_task c.tasks t x) ≡ referred_by r c.tasks
+  same_references r = ap (referred_by r) (set_place c.tasks t x positive) ∙ referred_set r c.tasks (t - 1) x inside (ap (λ (p : Part). p.names) here) (ap (λ (p : Part). p.queue) here)
+    where
+      here : part_of c t ≡ get_or c.tasks (t - 1) idle_part
+      here = at_place c.tasks t idle_part positive
+
+  same_table : IsTable c.table (set_task c.tasks t x)
+  same_table = record { refs = λ r. s.shape.table.refs r ∙ sym (same_references r); vouchers = s.shape.table.vouchers }
 
   same_claims : frame_claimed k x.frame y.frame ≡ frame_claimed k (part_of c t).frame (tasked m t).frame
   same_claims = fresh.claims ∙ sym (ap (λ o. frame_claimed k o (tasked m t).frame) own)

@@ -15,37 +15,38 @@ use Rattle.vch_state.specs.Plain.{SlotName, names_of, working_of, frame_of}
 use Rattle.vch_state.specs.Shape.{Indices}
 use Rattle.vch_state.specs.Nexts.{known_slot, record_kind, forming_kind, first_kind, task_kind}
 use Rattle.vch_state.specs.Reached.{Reached, IsNext, value_kind}
-use Rattle.vch_state.proofs.NextKinds.{next_agrees}
+use Rattle.vch_state.proofs.CallerLemmas.{next_agrees}
 use Rattle.vch_create.specs.Called.{HasNext, IsOfCall}
 use Rattle.vch_create.proofs.WorkNext.{reached_state, next_in}
 
-of_record : (p : Parts) (t : ℕ) (names : List SlotName) (first : First) → IsOfCall p t (record_kind names first)
-of_record p t names (One r rest) = by (asks (known_slot names) r)
+of_record : (p : Parts) (t version : ℕ) (names : List SlotName) (first : First) → IsOfCall p t (record_kind version names first)
+of_record p t version names (One r rest) = by (asks version (known_slot names) r)
   where
     by : (b : Bool) → IsOfCall p t (if b then kinds.Make else kinds.Work)
     by true = tt
     by false = tt
-of_record p t names First.End = tt
-of_record p t names (First.HeaderCut left) = tt
-of_record p t names (First.ContentCut wanted left) = tt
+of_record p t version names First.End = tt
+of_record p t version names (First.HeaderCut left) = tt
+of_record p t version names (First.ContentCut wanted left) = tt
 
 same_some : {a b : Kind} → Some a ≡ Some b → a ≡ b
 same_some e = cc
 
-of_forming : (p : Parts) (t : ℕ) (names : List SlotName) (call : Option Call) (at : ℕ) (v : Option Indices) (kind : Kind) → forming_kind names call at v ≡ Some kind → IsOfCall p t kind
-of_forming p t names call at None kind e = absurd (cc)
-of_forming p t names None at (Some v) kind e = absurd (cc)
-of_forming p t names (Some (calls.Create bytes)) at (Some v) kind e = subst (IsOfCall p t) (same_some e) (of_record p t names (first_of (drop at bytes)))
-of_forming p t names (Some (calls.GiveUp name)) at (Some v) kind e = absurd (cc)
-of_forming p t names (Some (calls.Extract name key)) at (Some v) kind e = absurd (cc)
-of_forming p t names (Some (calls.Recipes name)) at (Some v) kind e = absurd (cc)
-of_forming p t names (Some (calls.Send to moving name id)) at (Some v) kind e = absurd (cc)
-of_forming p t names (Some calls.Recv) at (Some v) kind e = absurd (cc)
-of_forming p t names (Some (calls.Extern name adding n)) at (Some v) kind e = absurd (cc)
-of_forming p t names (Some (calls.Charge name n)) at (Some v) kind e = absurd (cc)
-of_forming p t names (Some calls.Ledger) at (Some v) kind e = absurd (cc)
-of_forming p t names (Some calls.Assertions) at (Some v) kind e = absurd (cc)
-of_forming p t names (Some calls.Live) at (Some v) kind e = absurd (cc)
+of_forming : (p : Parts) (t version : ℕ) (names : List SlotName) (call : Option Call) (at : ℕ) (v : Option Indices) (kind : Kind) → forming_kind version names call at v ≡ Some kind → IsOfCall p t kind
+of_forming p t version names call at None kind e = absurd (cc)
+of_forming p t version names None at (Some v) kind e = absurd (cc)
+of_forming p t version names (Some (calls.Create bytes)) at (Some v) kind e = subst (IsOfCall p t) (same_some e) (of_record p t version names (first_of (drop at bytes)))
+of_forming p t version names (Some (calls.GiveUp name)) at (Some v) kind e = absurd (cc)
+of_forming p t version names (Some (calls.Extract name key)) at (Some v) kind e = absurd (cc)
+of_forming p t version names (Some (calls.Recipes name)) at (Some v) kind e = absurd (cc)
+of_forming p t version names (Some (calls.Send to moving name id)) at (Some v) kind e = absurd (cc)
+of_forming p t version names (Some calls.Recv) at (Some v) kind e = absurd (cc)
+of_forming p t version names (Some (calls.Extern name adding n)) at (Some v) kind e = absurd (cc)
+of_forming p t version names (Some (calls.Charge name n)) at (Some v) kind e = absurd (cc)
+of_forming p t version names (Some calls.Ledger) at (Some v) kind e = absurd (cc)
+of_forming p t version names (Some calls.Assertions) at (Some v) kind e = absurd (cc)
+of_forming p t version names (Some calls.Live) at (Some v) kind e = absurd (cc)
+of_forming p t version names (Some calls.Exit) at (Some v) kind e = absurd (cc)
 
 of_frame : (p : Parts) (t : ℕ) (names : List SlotName) (phase begun : ℕ) (f : Option Frame) (kind : Kind) → frame_of p.frames t ≡ f → value_kind f ≡ None
     → task_kind p.scenario names t phase begun f ≡ Some kind → IsOfCall p t kind
@@ -55,7 +56,7 @@ of_frame p t names phase begun None kind own quiet e = by (nat_lt begun (lines_u
     by true q = subst (IsOfCall p t) (same_some q) own
     by false q = absurd (cc)
 of_frame p t names phase begun (Some f) kind own quiet e =
-    of_forming p t names (nth_call p.scenario t begun) f.at f.forming kind (sym (ap (λ o. first_kind o (forming_kind names (nth_call p.scenario t begun) f.at f.forming)) quiet) ∙ e)
+    of_forming p t p.scenario.version names (nth_call p.scenario t begun) f.at f.forming kind (sym (ap (λ o. first_kind o (forming_kind p.scenario.version names (nth_call p.scenario t begun) f.at f.forming)) quiet) ∙ e)
 
 pub of_call : (p : Parts) (t : ℕ) (kind : Kind) → Reached p → is_task p.scenario t ≡ true → value_kind (frame_of p.frames t) ≡ None → IsNext p t (Some kind) → IsOfCall p t kind
 of_call p t kind r task quiet e = reached_state p (IsOfCall p t kind) r (λ m s.

@@ -7,7 +7,7 @@ use Rattle.vch_model.specs.declared.lists.Scenario.{Scenario}
 use Rattle.vch_model.specs.Lines.{line_at, lines_of}
 use Rattle.vch_machine.specs.Next.{call_in, nth_call}
 use Rattle.vch_model.specs.UserOnly.{IsUserCall, IsUserOnly}
-use Rattle.vch_state.proofs.EachLine.{line_has}
+use Rattle.vch_state.proofs.CallerLemmas.{line_has}
 
 -- the line of a call
 by_line : (sc : Scenario) (t n : ℕ) (call : Call) (P : Type 0) → nth_call sc t n ≡ Some call → ((l : ℕ × Line) → line_at sc t n ≡ Some l → l.1.call ≡ call → P) → P
@@ -18,7 +18,7 @@ by_line sc t n call P e f = by (line_at sc t n) refl e
     by (Some l) q e = let z : l.1.call ≡ call = cc in f l q z
 
 pub user_call : (sc : Scenario) (t n : ℕ) (call : Call) → IsUserOnly sc → nth_call sc t n ≡ Some call → IsUserCall call
-user_call sc t n call h e = by_line sc t n call (IsUserCall call) e (λ l q same. subst IsUserCall same (line_has (λ (x : Line). IsUserCall x.call) sc t n l h q))
+user_call sc t n call h e = by_line sc t n call (IsUserCall call) e (λ l q same. subst IsUserCall same (line_has (λ (x : Line). IsUserCall x.call) sc t n l h.1 q))
 
 pub call_within : (sc : Scenario) (t n : ℕ) (call : Call) → nth_call sc t (n + 1) ≡ Some call → n + 1 ≤ length (lines_of sc t)
 call_within sc t n call e = by_line sc t (n + 1) call (n + 1 ≤ length (lines_of sc t)) e (λ l q same.

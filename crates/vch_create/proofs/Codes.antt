@@ -1,4 +1,4 @@
--- A manager refuses with one code, and a record that asks none with codes of its own; none is that of want of memory.
+-- A manager refuses with one code, and a record that asks none with codes of its own; none is that of being out of memory.
 use Rattle.std.proofs.Common.{◌≡◌, ℕ, Bool, true, false, List, length, drop, refl, subst, Option, Some, None}
 use Rattle.std.specs.Prelude.{◌==◌, ◌||◌, not, if◌then◌else◌, Result, Ok, Err, ℤ, IfErr}
 use Rattle.vch_base.specs.declared.codes.TheConstants.{KERN_INVALID_ARGUMENT}
@@ -11,6 +11,7 @@ use Rattle.vch_base.specs.declared.manager.GetFault.{GetFault}
 use Rattle.vch_base.specs.declared.manager.GetFault.TheVariants as fault
 use Rattle.vch_base.specs.declared.value.Value.{Value}
 use Rattle.vch_base.specs.Managers.{Kept, Rules, answer, bare, own_answer}
+use Rattle.vch_model.specs.Eval.{is_core_command, is_plain_command}
 use Rattle.vch_recipe.specs.Recipes.{First, One, first_of}
 use Rattle.vch_value.specs.declared.flight.Made.{Made}
 use Rattle.vch_value.specs.Calls as value_calls
@@ -40,6 +41,7 @@ bare_code content x = if_err IsInvalid (length content == 0) _ _ tt refl
 
 own_code : (k : Key) (tasks : Option (List Flags)) (by command : ℕ) (previous : Option Value) (content : List ℕ) → IfErr (own_answer k tasks by command previous content) IsInvalid
 own_code keys.User tasks by command previous content = if_err IsInvalid (command == commands.USER_DATA_STORE) _ _ tt refl
+own_code keys.Test tasks by command previous content = if_err IsInvalid (command == commands.USER_DATA_STORE) _ _ tt refl
 own_code keys.Importance tasks by command previous content =
     if_err IsInvalid (command == commands.IMPORTANCE_SELF) _ _ (bare_code content _) (if_err IsInvalid (command == commands.AUTO_REDEEM) _ _ (bare_code content _) refl)
 own_code keys.Bank tasks by command previous content =
@@ -62,31 +64,31 @@ change_at_code : (at : Option AtKeys) (deed : Deed) → IfErr (works.change_at a
 change_at_code None deed = λ e. cc
 change_at_code (Some at) deed = tt
 
-copy_at_code : (key : ℕ) (previous : Option Indices) → IfErr (works.copy_at key previous) IsOther
-copy_at_code key None = tt
-copy_at_code key (Some v) = change_at_code (works.keys_named key) (deeds.Copy v)
+copy_at_code : (version key : ℕ) (previous : Option Indices) → IfErr (works.copy_at version key previous) IsOther
+copy_at_code version key None = tt
+copy_at_code version key (Some v) = change_at_code (works.keys_named version key) (deeds.Copy v)
 
-change_of_code : (command key size : ℕ) (previous : Option Indices) → IfErr (works.change_of command key size previous) IsOther
-change_of_code command key size previous =
-    if_err IsOther ((command == 3) || ((command == 4) || (command == 5))) _ _ (λ e. cc)
-    (if_err IsOther ((command == 0) || ((command == 1) || (command == 2))) _ _
-    (if_err IsOther (not (size == 0)) _ _ (λ e. cc) (if_err IsOther (command == 0) _ _ tt (if_err IsOther (command == 1) _ _ (copy_at_code key previous) (change_at_code (works.keys_named key) (deeds.Remove previous)))))
+change_of_code : (version command key size : ℕ) (previous : Option Indices) → IfErr (works.change_of version command key size previous) IsOther
+change_of_code version command key size previous =
+    if_err IsOther (is_core_command command) _ _ (λ e. cc)
+    (if_err IsOther (is_plain_command command) _ _
+    (if_err IsOther (not (size == 0)) _ _ (λ e. cc) (if_err IsOther (command == commands.NOOP) _ _ tt (if_err IsOther (command == commands.COPY) _ _ (copy_at_code version key previous) (change_at_code (works.keys_named version key) (deeds.Remove previous)))))
     (λ e. cc))
 
-change_found_code : (command key size : ℕ) (previous : Option Indices) → IfErr (works.change_found command key size previous) IsOther
-change_found_code command key size None = λ e. cc
-change_found_code command key size (Some v) = change_of_code command key size (Some v)
+change_found_code : (version command key size : ℕ) (previous : Option Indices) → IfErr (works.change_found version command key size previous) IsOther
+change_found_code version command key size None = λ e. cc
+change_found_code version command key size (Some v) = change_of_code version command key size (Some v)
 
-first_code : (names : ℕ → Option Indices) (first : First) → IfErr (works.first_change names first) IsOther
-first_code names (One r rest) = if_err IsOther (r.previous == 0) _ _ (change_of_code r.command r.key (length r.content) None) (change_found_code r.command r.key (length r.content) (names r.previous))
-first_code names First.End = λ e. cc
-first_code names (First.HeaderCut left) = λ e. cc
-first_code names (First.ContentCut wanted left) = λ e. cc
+first_code : (version : ℕ) (names : ℕ → Option Indices) (first : First) → IfErr (works.first_change version names first) IsOther
+first_code version names (One r rest) = if_err IsOther (r.previous == 0) _ _ (change_of_code version r.command r.key (length r.content) None) (change_found_code version r.command r.key (length r.content) (names r.previous))
+first_code version names First.End = λ e. cc
+first_code version names (First.HeaderCut left) = λ e. cc
+first_code version names (First.ContentCut wanted left) = λ e. cc
 
 -- a record that is refused has a code of its own
-by_first : (names : ℕ → Option Indices) (first : First) (result : Result Record Code) → IfErr result (λ c. works.first_change names first ≡ Err c) → IfErr result IsOther
-by_first names first (Ok r) e = tt
-by_first names first (Err c) e = subst (λ (r : Result (Option Change) Code). IfErr r IsOther) e (first_code names first)
+by_first : (version : ℕ) (names : ℕ → Option Indices) (first : First) (result : Result Record Code) → IfErr result (λ c. works.first_change version names first ≡ Err c) → IfErr result IsOther
+by_first version names first (Ok r) e = tt
+by_first version names first (Err c) e = subst (λ (r : Result (Option Change) Code). IfErr r IsOther) e (first_code version names first)
 
-pub own_code_of : (names : ℕ → Option Indices) (bytes : List ℕ) (place : ℕ) (result : Result Record Code) → works.Reads names bytes place result → IfErr result IsOther
-own_code_of names bytes place result r = by_first names (first_of (drop place bytes)) result r.refused
+pub own_code_of : (version : ℕ) (names : ℕ → Option Indices) (bytes : List ℕ) (place : ℕ) (result : Result Record Code) → works.Reads version names bytes place result → IfErr result IsOther
+own_code_of version names bytes place result r = by_first version names (first_of (drop place bytes)) result r.refused

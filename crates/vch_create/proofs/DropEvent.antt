@@ -1,6 +1,6 @@
 -- From what the code of Begin does for a drop to what the event does.
 use Rattle.std.proofs.Common.{◌≡◌, ℕ, ◌+◌, ◌-◌, ◌<◌, ◌≤◌, Bool, true, List, [], ◌∷◌, ◌++◌, refl, arith, sym, ap, ◌∙◌, length, subst, Option, Some, None}
-use Rattle.std.proofs.Math.ListN.{set}
+use Rattle.vch_base.specs.Tasks.{set_task}
 use Rattle.vch_base.specs.declared.key.Key.TheVariants as keys
 use Rattle.vch_base.specs.declared.kind.Kind.TheVariants as kinds
 use Rattle.vch_entry.specs.Entries.{IsApart}
@@ -16,7 +16,7 @@ use Rattle.vch_machine.specs.State.{Machine, tasked}
 use Rattle.vch_machine.specs.Beginning.{store_reply}
 use Rattle.vch_machine.specs.Events.{event}
 use Rattle.vch_machine.specs.Next.{nth_call}
-use Rattle.vch_legal.proofs.Keeps.{event_keeps}
+use Rattle.vch_legal.proofs.CallerLemmas.{event_keeps}
 use Rattle.vch_state.specs.declared.frame.Frame.{Frame}
 use Rattle.vch_state.specs.declared.frames.Working.{Working}
 use Rattle.vch_state.specs.declared.parts.Parts.{Parts}
@@ -59,20 +59,20 @@ module _ (p : Parts) (t : ℕ) (task : is_task p.scenario t ≡ true) (r : Reach
     there = call_is p t task r next idle m st s (calls.GiveUp name) call
 
     abbrev Next : Machine
-    Next = new_machine p.scenario keys.User (plain_of p) m t in_range.0 in_range.1 s name own twin there (apart_all p apart) (names_of p.spaces t) (names_of spaces2 t) (spaced_at p.spaces (t - 1) spaced)
+    Next = new_machine p.scenario keys.User (plain_of p) m t in_range.0 in_range.1 s name own twin there (apart_all p apart) (names_of p.spaces t) (names_of spaces2 t) (spaced_at p.spaces t spaced)
         (own_names p t task m s) (own_next p m t s task) vouchers2 given drops gives same_next vouchers few
 
     abbrev NextParts : Plain
-    NextParts = new_parts p.scenario keys.User (plain_of p) m t in_range.0 in_range.1 s name own twin there (apart_all p apart) (names_of p.spaces t) (names_of spaces2 t) (spaced_at p.spaces (t - 1) spaced)
+    NextParts = new_parts p.scenario keys.User (plain_of p) m t in_range.0 in_range.1 s name own twin there (apart_all p apart) (names_of p.spaces t) (names_of spaces2 t) (spaced_at p.spaces t spaced)
         (own_names p t task m s) (own_next p m t s task) vouchers2 given drops gives same_next vouchers few
 
     happens : (want : Bool) → event p.scenario want m t ≡ Some Next
     happens want = begins p.scenario m t want (calls.GiveUp name) task twin (kind_is p t task r next idle m st s) there
-        ∙ ap Some (is_drop p.scenario keys.User (plain_of p) m t in_range.0 in_range.1 s name own twin there (apart_all p apart) (names_of p.spaces t) (names_of spaces2 t) (spaced_at p.spaces (t - 1) spaced)
+        ∙ ap Some (is_drop p.scenario keys.User (plain_of p) m t in_range.0 in_range.1 s name own twin there (apart_all p apart) (names_of p.spaces t) (names_of spaces2 t) (spaced_at p.spaces t spaced)
         (own_names p t task m s) (own_next p m t s task) vouchers2 given drops gives same_next vouchers few want)
 
     stands : (want : Bool) → StandsFor p.scenario (keys.User ∷ []) NextParts Next
-    stands want = dropped_stands p.scenario keys.User (plain_of p) m t in_range.0 in_range.1 s name own twin there (apart_all p apart) (names_of p.spaces t) (names_of spaces2 t) (spaced_at p.spaces (t - 1) spaced)
+    stands want = dropped_stands p.scenario keys.User (plain_of p) m t in_range.0 in_range.1 s name own twin there (apart_all p apart) (names_of p.spaces t) (names_of spaces2 t) (spaced_at p.spaces t spaced)
         (own_names p t task m s) (own_next p m t s task) vouchers2 given drops gives same_next vouchers few (event_keeps p.scenario want t m Next s.fits (happens want))
 
     abbrev frame2 : Option Frame
@@ -80,18 +80,18 @@ module _ (p : Parts) (t : ℕ) (task : is_task p.scenario t ≡ true) (r : Reach
 
     tasks_then : parts_in spaces2 frames2 ≡ NextParts.tasks
     tasks_then = ap (λ ss. parts_in ss frames2) others
-        ∙ ap (parts_in (set p.spaces (t - 1) (names_of spaces2 t))) (put ∙ frames_begin p.frames t frame2 (omega (arith, (own_range p m t s task).1, in_range.0)))
-        ∙ parts_both p.spaces p.frames (t - 1) (names_of spaces2 t) (record { begun = begun_of p.frames t + 1; frame = frame2 })
-        ∙ ap (λ n. set (parts_in p.spaces p.frames) (t - 1) (record { names = (names_of spaces2 t).names; next = (names_of spaces2 t).next; queue = []; begun = n + 1; frame = frame2 })) (sym (own_begun p m t s task))
-        ∙ ap (λ q. set (parts_in p.spaces p.frames) (t - 1) (record { names = (names_of spaces2 t).names; next = (names_of spaces2 t).next; queue = q; begun = (part_of (plain_of p) t).begun + 1; frame = frame2 })) (sym (no_queue p.spaces p.frames (t - 1)))
+        ∙ ap (parts_in (set_task p.spaces t (names_of spaces2 t))) (put ∙ frames_begin p.frames t frame2 (own_range p m t s task).0 (own_range p m t s task).1)
+        ∙ parts_both p.spaces p.frames t (names_of spaces2 t) (record { begun = begun_of p.frames t + 1; frame = frame2 })
+        ∙ ap (λ n. set_task (parts_in p.spaces p.frames) t (record { names = (names_of spaces2 t).names; next = (names_of spaces2 t).next; queue = []; begun = n + 1; frame = frame2 })) (sym (own_begun p m t s task))
+        ∙ ap (λ q. set_task (parts_in p.spaces p.frames) t (record { names = (names_of spaces2 t).names; next = (names_of spaces2 t).next; queue = q; begun = (part_of (plain_of p) t).begun + 1; frame = frame2 })) (sym (no_queue p.spaces p.frames t))
 
     history_then : history2.entries ≡ NextParts.history
     history_then = pushed
         ∙ ap (λ reply. p.history.entries ++ entries.Call t (begun_of p.frames t + 1) words.GiveUp reply ∷ []) (answered_so p.scenario keys.User (plain_of p) m t in_range.0 in_range.1 s name own twin there (apart_all p apart)
-        (names_of p.spaces t) (names_of spaces2 t) (spaced_at p.spaces (t - 1) spaced) (own_names p t task m s) (own_next p m t s task) vouchers2 given drops gives same_next vouchers few)
+        (names_of p.spaces t) (names_of spaces2 t) (spaced_at p.spaces t spaced) (own_names p t task m s) (own_next p m t s task) vouchers2 given drops gives same_next vouchers few)
         ∙ ap (λ n. p.history.entries ++ entries.Call t n words.GiveUp (store_reply p.scenario m t (calls.GiveUp name)) ∷ []) (ap (λ n. n + 1) (number_is p t task r next idle m st s)
         ∙ sym (numbered p.scenario keys.User (plain_of p) m t in_range.0 in_range.1 s name own twin there (apart_all p apart)
-        (names_of p.spaces t) (names_of spaces2 t) (spaced_at p.spaces (t - 1) spaced) (own_names p t task m s) (own_next p m t s task) vouchers2 given drops gives same_next vouchers few))
+        (names_of p.spaces t) (names_of spaces2 t) (spaced_at p.spaces t spaced) (own_names p t task m s) (own_next p m t s task) vouchers2 given drops gives same_next vouchers few))
 
     spare_then : history2.spare ≡ p.history.spare - 1
     spare_then = omega (arith, less)

@@ -1,8 +1,8 @@
 -- A task gave up a name, and its drop is answered: what the parts stand for then.
-use Rattle.std.proofs.Common.{◌≡◌, ◌≢◌, ℕ, ◌+◌, ◌-◌, ◌<◌, ◌≤◌, ◌==◌, nat_lt, not, Bool, true, false, cond, List, [], ◌∷◌, refl, arith, sym, ap, ◌∙◌, length, get_or, subst, Option, Some, None}
+use Rattle.std.proofs.Common.{◌≡◌, ◌≢◌, ℕ, ◌+◌, ◌-◌, ◌<◌, ◌≤◌, ◌==◌, nat_lt, not, Bool, true, false, cond, List, [], ◌∷◌, refl, arith, sym, ap, ◌∙◌, length, subst, Option, Some, None}
+use Rattle.vch_base.specs.Tasks.{set_task, at_task}
+use Rattle.vch_base.proofs.CallerLemmas.{set_twice, own_item, other_items}
 use Rattle.std.specs.Prelude.{is_some}
-use Rattle.std.proofs.Math.ListN.{set}
-use Rattle.std.proofs.lemmas.List.{get_or-set_same, get_or-set_other, set-set}
 use Rattle.std.specs.List.{flat_map}
 use Rattle.vch_base.specs.declared.key.Key.{Key}
 use Rattle.vch_base.specs.Managers.{count}
@@ -26,9 +26,7 @@ use Rattle.vch_machine.specs.Frames.{replied}
 use Rattle.vch_machine.specs.Naming.{handles_of, is_known, one_less, orphaned, places}
 use Rattle.vch_machine.specs.Next.{current, nth_call}
 use Rattle.vch_legal.specs.Facts.{Fits}
-use Rattle.vch_legal.proofs.OwnTask.{orphaned_few}
-use Rattle.vch_legal.proofs.Records.{voucher_seen}
-use Rattle.vch_legal.proofs.Refusals.{names_seen}
+use Rattle.vch_legal.proofs.CallerLemmas.{orphaned_few, voucher_seen, names_seen}
 use Rattle.vch_state.specs.declared.frame.Frame.{Frame}
 use Rattle.vch_state.specs.declared.frame.Claiming.{Claiming}
 use Rattle.vch_state.specs.Plain.{Plain, Part, SlotName, part_of, idle_part, closed}
@@ -36,8 +34,7 @@ use Rattle.vch_state.specs.Shape.{Indices, Pairwise, Optional, HasMap, IsLet, Is
 use Rattle.vch_state.specs.Pictures.{cell_holds, frame_holds, receipts_of, frame_claimed, let_holds}
 use Rattle.vch_state.specs.Bounds.{open_of, flying_of, rank_in, makes_in, unanswered_in, user_references}
 use Rattle.vch_state.specs.Stands.{StandsFor}
-use Rattle.vch_state.proofs.Closing.{closed_frames, holds_closed, receipts_closed, claimed_closed, rank_closed, makes_closed, open_closed, flying_closed}
-use Rattle.vch_state.proofs.Spending.{Paid}
+use Rattle.vch_state.proofs.CallerLemmas.{Formless, closed_frames, holds_closed, receipts_closed, claimed_closed, rank_closed, makes_closed, open_closed, flying_closed, Paid}
 use Rattle.vch_create.specs.Drops.{Drops, drop_answer, orphan_items}
 use Rattle.vch_create.specs.declared.give_up.GivenUp.{GivenUp}
 use Rattle.vch_create.proofs.BeginMachine.{counted, begun_here}
@@ -48,7 +45,7 @@ use Rattle.vch_create.proofs.OneTask.{then_parts, then_machine, stands_one}
 use Rattle.vch_create.proofs.SlotsLess.{Ends, by_orphan, cell_map, ends_of, less_holds, out, refs_less, slots_still, still_live}
 use Rattle.vch_create.proofs.Still.{names_still, queue_still, referred_at, task_still}
 use Rattle.vch_create.proofs.Tables.{referred_with}
-use Rattle.vch_create.proofs.Vouchers.{Tests, all_know, keeps_of, keeps_set, of_slot, tests_there}
+use Rattle.vch_create.proofs.Vouchers.{Tests, all_know, keeps_of, keeps_put, of_slot, tests_there}
 
 module _ (sc : Scenario) (k : Key) (c : Plain) (m : Machine) (t : ℕ) (positive : 0 < t) (inside : t - 1 < length c.tasks) (s : StandsFor sc (k ∷ []) c m) (name : ℕ)
     (own : (part_of c t).frame ≡ None) (task : (tasked m t).frame ≡ None) (call : nth_call sc t ((tasked m t).begun + 1) ≡ Some (calls.GiveUp name))
@@ -64,6 +61,9 @@ module _ (sc : Scenario) (k : Key) (c : Plain) (m : Machine) (t : ℕ) (positive
 
   inside_tasks : t - 1 < length m.tasks
   inside_tasks = omega (arith, s.shape.long, inside)
+
+  among_tasks : t ≤ length m.tasks
+  among_tasks = omega (arith, inside_tasks)
 
   -- the voucher of the name, or none
   abbrev pub v : Option Handles
@@ -126,25 +126,25 @@ module _ (sc : Scenario) (k : Key) (c : Plain) (m : Machine) (t : ℕ) (positive
 
   -- The machine does so.
 
-  framed_tasks : (frames.with_frame mid t (frames.closed G)).tasks ≡ set m.tasks (t - 1) y
-  framed_tasks = ap (λ (a : Tasked). set (set m.tasks (t - 1) y_before) (t - 1) (record a { frame = frames.closed G })) (get_or-set_same m.tasks (t - 1) y_before idle inside_tasks)
-      ∙ set-set m.tasks (t - 1) y_before y
+  framed_tasks : (frames.with_frame mid t (frames.closed G)).tasks ≡ set_task m.tasks t y
+  framed_tasks = ap (λ (a : Tasked). set_task (set_task m.tasks t y_before) t (record a { frame = frames.closed G })) (own_item m.tasks t y_before idle positive among_tasks)
+      ∙ set_twice m.tasks t y_before y
 
   -- the state in which the call is counted, with one user reference less
   less_is : with_tasked (counted sc m t) t (record (tasked (counted sc m t) t) { names = one_less (tasked (counted sc m t) t).names name }) ≡ mid
-  less_is = ap (λ (a : Tasked). record m { tasks = set (set m.tasks (t - 1) (begun_one (tasked m t))) (t - 1) (record a { names = one_less a.names name }) }) (begun_here sc m t inside_tasks)
-      ∙ ap (λ ts. record m { tasks = ts }) (set-set m.tasks (t - 1) (begun_one (tasked m t)) y_before)
+  less_is = ap (λ (a : Tasked). record m { tasks = set_task (set_task m.tasks t (begun_one (tasked m t))) t (record a { names = one_less a.names name }) }) (begun_here sc m t positive inside_tasks)
+      ∙ ap (λ ts. record m { tasks = ts }) (set_twice m.tasks t (begun_one (tasked m t)) y_before)
 
   abbrev told_with : Machine → Option Handles → Machine
   told_with n w = replied (frames.with_frame n t (frames.closed (leaving_frame (orphaned n w)))) t (calls.GiveUp name) (store_reply sc m t (calls.GiveUp name))
 
   pub is_drop : (want : Bool) → begin_call sc want (counted sc m t) t (calls.GiveUp name) (store_reply sc m t (calls.GiveUp name)) ≡ new_machine
   is_drop want = ap (λ n. told_with n (handles_of (tasked (counted sc m t) t).names name)) less_is
-      ∙ ap (λ (a : Tasked). told_with mid (handles_of a.names name)) (begun_here sc m t inside_tasks)
+      ∙ ap (λ (a : Tasked). told_with mid (handles_of a.names name)) (begun_here sc m t positive inside_tasks)
       ∙ ap (λ ts. record m { tasks = ts; past = entry ∷ m.past }) framed_tasks
 
   pub numbered : (tasked (frames.with_frame mid t (frames.closed G)) t).begun ≡ (tasked m t).begun + 1
-  numbered = ap (λ ts. (get_or ts (t - 1) idle).begun) framed_tasks ∙ ap (λ (a : Tasked). a.begun) (get_or-set_same m.tasks (t - 1) y idle inside_tasks)
+  numbered = ap (λ ts. (at_task ts t idle).begun) framed_tasks ∙ ap (λ (a : Tasked). a.begun) (own_item m.tasks t y idle positive among_tasks)
 
   -- the store's reply
   pub answered_so : drop_answer given.was_there ≡ store_reply sc m t (calls.GiveUp name)
@@ -168,12 +168,12 @@ module _ (sc : Scenario) (k : Key) (c : Plain) (m : Machine) (t : ℕ) (positive
       (λ n. ap (λ o. references_of (slot_at new r) + fell r o) n.name_ ∙ no_more (references_of (slot_at new r)) ∙ ap (λ ts. references_of (slot_at ts r)) n.table)
       (λ a w n. ap (λ o. references_of (slot_at new r) + fell r o) n.name_ ∙ refs_less c.table new given.orphan a n.ends r)
 
-  fits_table : IsTable new (set c.tasks (t - 1) x)
+  fits_table : IsTable new (set_task c.tasks t x)
   fits_table = record { refs = refs; vouchers = vouchers }
     where
-      refs : (r : ℕ) → references_of (slot_at new r) ≡ referred_by r (set c.tasks (t - 1) x)
+      refs : (r : ℕ) → references_of (slot_at new r) ≡ referred_by r (set_task c.tasks t x)
       refs r =
-          let a : referred_by r (set c.tasks (t - 1) x) + (named_by r (part_of c t).names + queued_by r (part_of c t).queue) ≡ referred_by r c.tasks + (named_by r after.names + queued_by r (part_of c t).queue) = referred_with r c.tasks (t - 1) x inside in
+          let a : referred_by r (set_task c.tasks t x) + (named_by r (part_of c t).names + queued_by r (part_of c t).queue) ≡ referred_by r c.tasks + (named_by r after.names + queued_by r (part_of c t).queue) = referred_with r c.tasks t x positive inside in
           let b : named_by r (part_of c t).names ≡ named_by r after.names + fell r (by_name old.names name) = ap (named_by r) old_names ∙ named_less name r old.names ∙ ap (λ ns. named_by r ns + fell r (by_name old.names name)) (sym after_names) in
           let f : references_of (slot_at new r) + fell r (by_name old.names name) ≡ references_of (slot_at c.table r) = refs_all r in
           let e : references_of (slot_at c.table r) ≡ referred_by r c.tasks = s.shape.table.refs r in
@@ -190,19 +190,19 @@ module _ (sc : Scenario) (k : Key) (c : Plain) (m : Machine) (t : ℕ) (positive
 
   -- The tasks.
 
-  live_in : (i : ℕ) (r : ℕ) → 1 ≤ named_by r (get_or (set c.tasks (t - 1) x) i idle_part).names + queued_by r (get_or (set c.tasks (t - 1) x) i idle_part).queue → 1 ≤ references_of (slot_at new r)
-  live_in i r l =
-      let a : named_by r (get_or (set c.tasks (t - 1) x) i idle_part).names + queued_by r (get_or (set c.tasks (t - 1) x) i idle_part).queue ≤ referred_by r (set c.tasks (t - 1) x) = referred_at r (set c.tasks (t - 1) x) i in
-      let b : references_of (slot_at new r) ≡ referred_by r (set c.tasks (t - 1) x) = fits_table.refs r in
+  live_in : (u : ℕ) (r : ℕ) → 1 ≤ named_by r (at_task (set_task c.tasks t x) u idle_part).names + queued_by r (at_task (set_task c.tasks t x) u idle_part).queue → 1 ≤ references_of (slot_at new r)
+  live_in u r l =
+      let a : named_by r (at_task (set_task c.tasks t x) u idle_part).names + queued_by r (at_task (set_task c.tasks t x) u idle_part).queue ≤ referred_by r (set_task c.tasks t x) = referred_at r (set_task c.tasks t x) u in
+      let b : references_of (slot_at new r) ≡ referred_by r (set_task c.tasks t x) = fits_table.refs r in
       omega (arith, a, b, l)
 
-  live_other : (u : ℕ) → u - 1 ≢ t - 1 → (r : ℕ) → 1 ≤ named_by r (part_of c u).names + queued_by r (part_of c u).queue → 1 ≤ references_of (slot_at new r)
-  live_other u n r l = live_in (u - 1) r (subst (λ (p : Part). 1 ≤ named_by r p.names + queued_by r p.queue) (sym (get_or-set_other c.tasks (t - 1) (u - 1) x idle_part n)) l)
+  live_other : (u : ℕ) → u ≢ t → (r : ℕ) → 1 ≤ named_by r (part_of c u).names + queued_by r (part_of c u).queue → 1 ≤ references_of (slot_at new r)
+  live_other u n r l = live_in u r (subst (λ (p : Part). 1 ≤ named_by r p.names + queued_by r p.queue) (sym (other_items c.tasks t u x idle_part n)) l)
 
   live_own : (r : ℕ) → 1 ≤ named_by r x.names + queued_by r x.queue → 1 ≤ references_of (slot_at new r)
-  live_own r l = live_in (t - 1) r (subst (λ (p : Part). 1 ≤ named_by r p.names + queued_by r p.queue) (sym (get_or-set_same c.tasks (t - 1) x idle_part inside)) l)
+  live_own r l = live_in t r (subst (λ (p : Part). 1 ≤ named_by r p.names + queued_by r p.queue) (sym (own_item c.tasks t x idle_part positive (omega (arith, inside)))) l)
 
-  others : (u : ℕ) → u - 1 ≢ t - 1 → 0 < u → u - 1 < length c.tasks → IsTask new_parts (current sc m u) (part_of c u) (tasked m u)
+  others : (u : ℕ) → u ≢ t → 0 < u → u - 1 < length c.tasks → IsTask new_parts (current sc m u) (part_of c u) (tasked m u)
   others u n p i = task_still c new_parts.tasks new new_parts.history new_parts.spare still (current sc m u) (part_of c u) (tasked m u) (live_other u n) (s.shape.tasks u p i)
 
   -- the names as the old table has them
@@ -212,8 +212,8 @@ module _ (sc : Scenario) (k : Key) (c : Plain) (m : Machine) (t : ℕ) (positive
   -- who has the voucher of the name
   knows : (a : SlotName) (w : Handles) (n : Known a w) → is_known mid w ≡ not (is_some given.orphan)
   knows a w n =
-      all_know c w a.slot tests (set c.tasks (t - 1) x) (set m.tasks (t - 1) y_before)
-      (keeps_set c c.tasks m.tasks (t - 1) x y_before (keeps_of sc c m s.shape) (record { names = names_then; queue = z.queue }))
+      all_know c w a.slot tests (set_task c.tasks t x) (set_task m.tasks t y_before)
+      (keeps_put c c.tasks m.tasks t x y_before (keeps_of sc c m s.shape) (record { names = names_then; queue = z.queue }))
       ∙ ap (λ i. nat_lt 0 i) (sym (fits_table.refs a.slot))
       ∙ still_live c new a.slot (cond (a.references == 1) 1 0) given.orphan n.ends w n.map
     where
@@ -237,8 +237,12 @@ module _ (sc : Scenario) (k : Key) (c : Plain) (m : Machine) (t : ℕ) (positive
       (by_orphan c new a.slot (cond (a.references == 1) 1 0) given.orphan n.ends w n.map (λ o. Pairwise (IsLet new_parts) (orphan_items o) (left w o)) tt
       (items_lets new_parts n.ends.cell.indices w (cell_map c new a.slot (cond (a.references == 1) 1 0) given.orphan n.ends w n.map))))
 
+  formless_now : Formless G
+  formless_now answered = refl
+
   new_frame : IsFrame new_parts (nth_call sc t y.begun) F G
   new_frame = record {
+    answered = refl;
     forming = tt;
     at_byte = refl;
     keys_ = rw call refl;
@@ -287,7 +291,7 @@ module _ (sc : Scenario) (k : Key) (c : Plain) (m : Machine) (t : ℕ) (positive
 
   held : (h : ℕ) → count h (frame_holds k y.frame) + count h (flat_map (cell_holds c k) new) ≡ count h (frame_holds k (tasked m t).frame) + count h (flat_map (cell_holds c k) c.table)
   held h =
-      let a : count h (frame_holds k y.frame) ≡ count h (flat_map (let_holds k) (orphaned mid v)) = ap (count h) (holds_closed k G) in
+      let a : count h (frame_holds k y.frame) ≡ count h (flat_map (let_holds k) (orphaned mid v)) = ap (count h) (holds_closed k G formless_now) in
       let b : count h (frame_holds k (tasked m t).frame) ≡ 0 = ap (λ f. count h (frame_holds k f)) task in
       let e = lets_hold h in
       omega (arith, a, b, e)
@@ -295,7 +299,7 @@ module _ (sc : Scenario) (k : Key) (c : Plain) (m : Machine) (t : ℕ) (positive
   -- The bounds.
 
   opens : open_of y.frame ≡ 0
-  opens = open_closed G
+  opens = open_closed G formless_now
 
   opened : open_of (tasked m t).frame ≡ 0
   opened = ap open_of task
@@ -306,13 +310,13 @@ module _ (sc : Scenario) (k : Key) (c : Plain) (m : Machine) (t : ℕ) (positive
   answered : unanswered_in sc t y + 1 ≤ unanswered_in sc t (tasked m t)
   answered = let a = opens in let b = opened in let e = within in omega (arith, a, b, e)
 
-  done_after : rank_in sc t y ≤ 3
+  done_after : rank_in sc t y ≤ 4
   done_after =
-      let a : rank_in sc t y ≡ length (orphaned mid v) + 0 = rank_closed (nth_call sc t y.begun) G in
+      let a : rank_in sc t y ≡ length (orphaned mid v) + 0 = rank_closed (nth_call sc t y.begun) G formless_now in
       omega (arith, a, orphaned_few mid v)
 
   makes_after : makes_in sc t y ≡ 0
-  makes_after = makes_closed (nth_call sc t y.begun) G
+  makes_after = makes_closed (nth_call sc t y.begun) G formless_now
 
   flying_after : flying_of y.frame ≡ 0
   flying_after = flying_closed G

@@ -1,13 +1,15 @@
 -- The receipts of the frames are those of the tasks.
-use Rattle.std.proofs.Common.{◌≡◌, ℕ, zero, suc, ◌+◌, ◌<◌, ◌≤◌, Bool, true, false, cond, List, [], ◌∷◌, ◌++◌, refl, arith, ap, ◌∙◌, length, take, get_or, Option, Some, None, length-append}
+use Rattle.std.proofs.Common.{◌≡◌, ℕ, zero, suc, ◌+◌, ◌<◌, ◌≤◌, Bool, true, false, cond, List, [], ◌∷◌, ◌++◌, refl, arith, ap, sym, ◌∙◌, length, take, get_or, Option, Some, None, length-append}
 use Rattle.std.specs.List.{flat_map}
 use Rattle.vch_base.specs.declared.key.Key.{Key}
+use Rattle.vch_base.specs.Tasks.{at_task}
 use Rattle.vch_ports.specs.Names.{Names}
 use Rattle.vch_state.specs.declared.frame.Frame.{Frame}
 use Rattle.vch_state.specs.declared.frame.KeyReceipt.{KeyReceipt}
 use Rattle.vch_state.specs.declared.frames.Working.{Working}
 use Rattle.vch_state.specs.Plain.{Part, resting}
-use Rattle.vch_state.specs.Pictures.{receipts_of, receipt_of, part_expects, same_key}
+use Rattle.vch_state.specs.Pictures.{receipts_of, receipt_of, part_expects}
+use Rattle.vch_base.specs.Keys.{same_key}
 use Rattle.vch_state.specs.Reached.{parts_in}
 use Rattle.vch_create.specs.Makes.{receipts_in}
 
@@ -35,11 +37,12 @@ take_more k (x ∷ xs) (suc i) l =
     omega (arith, a, b, d)
 
 -- what is counted with the next frame
-pub flying_step : (k : Key) (xs : List Working) (i count : ℕ) (x : Working) (n : ℕ) → x ≡ get_or xs i resting → n ≡ length (receipts_of k x.frame) → i < length xs → count ≡ length (receipts_in k (take i xs)) → count ≤ i
+pub flying_step : (k : Key) (xs : List Working) (i count : ℕ) (x : Working) (n : ℕ) → x ≡ at_task xs (i + 1) resting → n ≡ length (receipts_of k x.frame) → i < length xs → count ≡ length (receipts_in k (take i xs)) → count ≤ i
     → (count + n ≡ length (receipts_in k (take (i + 1) xs))) × (count + n ≤ i + 1)
 flying_step k xs i count x n e q l c few =
     let one : suc i ≡ i + 1 = omega arith in
-    let m : n ≡ length (receipts_of k (get_or xs i resting).frame) = q ∙ ap (λ (w : Working). length (receipts_of k w.frame)) e in
+    let same : at_task xs (i + 1) resting ≡ get_or xs i resting = ap (λ t. at_task xs t resting) (sym one) in
+    let m : n ≡ length (receipts_of k (get_or xs i resting).frame) = q ∙ ap (λ (w : Working). length (receipts_of k w.frame)) (e ∙ same) in
     let a : length (receipts_in k (take (suc i) xs)) ≡ length (receipts_in k (take i xs)) + length (receipts_of k (get_or xs i resting).frame) = take_more k xs i l in
     let b : length (receipts_in k (take (suc i) xs)) ≡ length (receipts_in k (take (i + 1) xs)) = ap (λ j. length (receipts_in k (take j xs))) one in
     let d : length (receipts_of k (get_or xs i resting).frame) ≤ 1 = one_at_most k (get_or xs i resting).frame in

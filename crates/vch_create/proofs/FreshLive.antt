@@ -1,5 +1,6 @@
 -- A value that was live, and a fresh one: what the machine's live values and handles are then, beside the manager's.
-use Rattle.std.proofs.Common.{◌≡◌, ◌≢◌, ℕ, ◌+◌, ◌-◌, ◌<◌, ◌≤◌, ◌==◌, nat_lt, Bool, true, false, List, [], ◌∷◌, ◌++◌, refl, arith, sym, ap, ◌∙◌, length, map, get_or, subst, Option, Some, None, inl, inr}
+use Rattle.std.proofs.Common.{◌≡◌, ◌≢◌, ℕ, zero, suc, ◌+◌, ◌<◌, ◌≤◌, ◌==◌, nat_lt, Bool, true, false, List, [], ◌∷◌, ◌++◌, refl, arith, sym, ap, ◌∙◌, length, map, subst, Option, Some, None, inl, inr}
+use Rattle.vch_base.specs.Tasks.{set_task, at_task}
 use Rattle.std.specs.Prelude.{Result, Ok, Err, ℤ}
 use Rattle.std.proofs.Math.ListN.{set}
 use Rattle.std.proofs.lemmas.Grind.{common_steps}
@@ -15,17 +16,14 @@ use Rattle.vch_base.specs.Managers.{Kept, IsAbsent, live_at, more_made, new_live
 use Rattle.vch_model.specs.Eval.{answer_to}
 use Rattle.vch_model.specs.declared.lists.Scenario.{Scenario}
 use Rattle.vch_machine.specs.State as machine
-use Rattle.vch_machine.specs.State.{of_key, Living, Pool, Machine, Tasked, tasked, living_at, handle_of, value_at, same_place}
+use Rattle.vch_base.specs.Keyed.{of_key}
+use Rattle.vch_machine.specs.State.{Living, Pool, Machine, Tasked, tasked, living_at, handle_of, value_at, same_place}
 use Rattle.vch_machine.specs.Making.{fresh_handle, fewer_free, race_claim, on_task, on_claims, given_receipt}
 use Rattle.vch_legal.specs.Facts.{Fits, bit, times}
-use Rattle.vch_legal.proofs.MakeSpots.{append_here, append_other, fresh_dead}
-use Rattle.vch_legal.proofs.MakeSteps.{found_value}
-use Rattle.vch_legal.proofs.SeenTasks.{claims_task}
-use Rattle.vch_legal.proofs.SeenValues.{at_most_once}
+use Rattle.vch_legal.proofs.CallerLemmas.{append_here, append_other, fresh_dead, found_value, claims_task, at_most_once}
 use Rattle.vch_state.specs.Plain.{number_at}
 use Rattle.vch_state.specs.Stands.{IsLiving}
-use Rattle.vch_state.proofs.Asks.{same_at}
-use Rattle.vch_state.proofs.Replaced.{framed}
+use Rattle.vch_state.proofs.CallerLemmas.{same_at, framed}
 use Rattle.vch_create.proofs.MadeLive.{IsFree, used_after, live_new, live_old}
 
 -- The handle of a value.
@@ -172,7 +170,7 @@ stored t command previous content x e other = by (command == 10) (command == 211
 -- The tasks.
 
 pub tasks_given : (n m : Machine) (t : ℕ) (f : machine.Frame) (p : machine.Place) → n.tasks ≡ m.tasks → f.claim ≡ None
-    → (given_receipt n t f p).tasks ≡ set (on_claims (race_claim p) m).tasks (t - 1) (framed (tasked (on_claims (race_claim p) m) t) (Some (record f { receipt = Some p })))
+    → (given_receipt n t f p).tasks ≡ set_task (on_claims (race_claim p) m).tasks t (framed (tasked (on_claims (race_claim p) m) t) (Some (record f { receipt = Some p })))
 tasks_given n m t f p same claim = by n.tasks same
   where
     own : (x : Tasked) → on_task (race_claim p) (record x { frame = Some (record f { receipt = Some p }) }) ≡ framed (on_task (race_claim p) x) (Some (record f { receipt = Some p }))
@@ -181,10 +179,14 @@ tasks_given n m t f p same claim = by n.tasks same
         by_claim : (f : machine.Frame) → f.claim ≡ None → on_task (race_claim p) (record x { frame = Some (record f { receipt = Some p }) }) ≡ framed (on_task (race_claim p) x) (Some (record f { receipt = Some p }))
         by_claim f e = rw e refl
 
-    by : (xs : List Tasked) → xs ≡ m.tasks → map (on_task (race_claim p)) (set xs (t - 1) (record (get_or xs (t - 1) machine.idle) { frame = Some (record f { receipt = Some p }) }))
-        ≡ set (map (on_task (race_claim p)) m.tasks) (t - 1) (framed (tasked (on_claims (race_claim p) m) t) (Some (record f { receipt = Some p })))
-    by xs e = rw e (map-set (on_task (race_claim p)) m.tasks (t - 1) (record (tasked m t) { frame = Some (record f { receipt = Some p }) })
-        ∙ ap (set (map (on_task (race_claim p)) m.tasks) (t - 1)) (own (tasked m t) ∙ ap (λ y. framed y (Some (record f { receipt = Some p }))) (sym (claims_task m (race_claim p) t))))
+    map_put : (g : Tasked → Tasked) (xs : List Tasked) (t : ℕ) (x : Tasked) → map g (set_task xs t x) ≡ set_task (map g xs) t (g x)
+    map_put g xs zero x = refl
+    map_put g xs (suc i) x = map-set g xs i x
+
+    by : (xs : List Tasked) → xs ≡ m.tasks → map (on_task (race_claim p)) (set_task xs t (record (at_task xs t machine.idle) { frame = Some (record f { receipt = Some p }) }))
+        ≡ set_task (map (on_task (race_claim p)) m.tasks) t (framed (tasked (on_claims (race_claim p) m) t) (Some (record f { receipt = Some p })))
+    by xs e = rw e (map_put (on_task (race_claim p)) m.tasks t (record (tasked m t) { frame = Some (record f { receipt = Some p }) })
+        ∙ ap (set_task (map (on_task (race_claim p)) m.tasks) t) (own (tasked m t) ∙ ap (λ y. framed y (Some (record f { receipt = Some p }))) (sym (claims_task m (race_claim p) t))))
 
 -- a value that was absent is no previous value
 pub absent_previous : (m : Machine) (k : Key) (slots : List (Option Live)) (numbers : List ℕ) (x : Value) → ((h : ℕ) → IsLiving (number_at numbers h) (live_at slots h) (living_at m.live (record { key = k; handle = h }))) → IsAbsent slots x

@@ -1,7 +1,7 @@
 -- From what the calls of a naming promise to what it does.
-use Rattle.std.proofs.Common.{◌≡◌, ℕ, ◌-◌, true, false, List, refl, sym, ap, ◌∙◌, subst, Option, Some, None}
+use Rattle.std.proofs.Common.{◌≡◌, ℕ, true, false, List, refl, sym, ap, ◌∙◌, subst, Option, Some, None}
+use Rattle.vch_base.proofs.CallerLemmas.{set_twice}
 use Rattle.std.specs.Prelude.{IsSome, IfSome}
-use Rattle.std.proofs.lemmas.List.{set-set}
 use Rattle.vch_base.specs.Slots.{slot_at, Writes}
 use Rattle.vch_table.specs.declared.table.Cell.{Cell}
 use Rattle.vch_table.specs.declared.table.Met.{Met}
@@ -17,7 +17,7 @@ reserved : (a b : Names) → b.names ≡ a.names → b.next ≡ a.next → b ≡
 reserved a b x y = rw (← x, ← y) refl
 
 pub with_twice : (spaces mid new : List Names) (t : ℕ) (a b : Names) → mid ≡ with_names_of spaces t a → new ≡ with_names_of mid t b → new ≡ with_names_of spaces t b
-with_twice spaces mid new t a b x y = y ∙ ap (λ s. with_names_of s t b) x ∙ set-set spaces (t - 1) a b
+with_twice spaces mid new t a b x y = y ∙ ap (λ s. with_names_of s t b) x ∙ set_twice spaces t a b
 
 -- the slot that was met is there
 pub met_there : (old mid : List (Option Cell)) (v : Indices) (met : Met) → meets (slot_at old met.slot) old v met mid → IsSome (slot_at mid met.slot)

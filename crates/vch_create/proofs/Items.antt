@@ -1,13 +1,16 @@
 -- The indices of a map as what is to be let go of: they are the handles of the machine's map, and hold what the map held.
-use Rattle.std.proofs.Common.{◌≡◌, ℕ, List, [], ◌∷◌, ◌++◌, refl, Option, Some, None}
+use Rattle.std.proofs.Common.{◌≡◌, ℕ, Bool, true, false, cond, List, [], ◌∷◌, ◌++◌, refl, ap, ◌∙◌, Option, Some, None}
+use Rattle.vch_base.specs.Keys.{every_key, same_key}
+use Rattle.vch_machine.specs.State.{Place}
 use Rattle.std.specs.List.{flat_map}
 use Rattle.vch_base.specs.declared.key.Key.{Key}
 use Rattle.vch_base.specs.declared.key.Key.TheVariants as keys
-use Rattle.vch_machine.specs.State.{of_key, Handles}
+use Rattle.vch_base.specs.Keyed.{of_key}
+use Rattle.vch_machine.specs.State.{Handles}
 use Rattle.vch_machine.specs.Naming as naming
 use Rattle.vch_machine.specs.Naming.{places}
 use Rattle.vch_state.specs.Plain.{Plain}
-use Rattle.vch_state.specs.Shape.{Indices, index_of, Pairwise, Optional, IsIndexOf, IsMap, IsLet}
+use Rattle.vch_state.specs.Shape.{Indices, index_of, Pairwise, Optional, IsIndexOf, AreIndices, IsMap, IsLet}
 use Rattle.vch_state.specs.Pictures.{let_holds, listed}
 use Rattle.vch_create.specs.Formed.{item, items}
 
@@ -24,44 +27,38 @@ module _ (c : Plain) where
   item_lets k None (Some h) p = absurd p
   item_lets k (Some i) None p = absurd p
 
+  each_lets : (ks : List Key) (v : Indices) (w : Handles) → AreIndices c ks v w → Pairwise (IsLet c) (flat_map (λ k. item k (index_of k v)) ks) (flat_map (λ k. naming.item k (of_key k w)) ks)
+  each_lets [] v w p = tt
+  each_lets (k ∷ ks) v w p = pairwise_append (IsLet c) _ _ _ _ (item_lets k (index_of k v) (of_key k w) p.0) (each_lets ks v w p.1)
+
   -- the indices of a map are those of its handles
   pub items_lets : (v : Indices) (w : Handles) → IsMap c v w → Pairwise (IsLet c) (items v) (places w)
-  items_lets v w p =
-      pairwise_append (IsLet c) _ _ _ _ (item_lets keys.Importance (index_of keys.Importance v) w.importance p.0.0)
-      (pairwise_append (IsLet c) _ _ _ _ (item_lets keys.Bank (index_of keys.Bank v) w.bank p.0.1.0) (item_lets keys.User (index_of keys.User v) w.user p.0.1.1.0))
+  items_lets v w p = each_lets every_key v w p.0
+
+nil_right : (xs : List ℕ) → xs ++ [] ≡ xs
+nil_right [] = refl
+nil_right (x ∷ xs) = ap (λ ys. x ∷ ys) (nil_right xs)
+
+-- one key's handle as an item holds it at that key alone
+hold_one : (k q : Key) (o : Option ℕ) (rest : List Place) → flat_map (let_holds k) (naming.item q o ++ rest) ≡ cond (same_key q k) (listed o) [] ++ flat_map (let_holds k) rest
+hold_one k q None rest = by (same_key q k)
+  where
+    by : (b : Bool) → flat_map (let_holds k) rest ≡ cond b [] [] ++ flat_map (let_holds k) rest
+    by true = refl
+    by false = refl
+hold_one k q (Some h) rest = by (same_key q k)
+  where
+    by : (b : Bool) → cond b (h ∷ []) [] ++ flat_map (let_holds k) rest ≡ cond b (listed (Some h)) [] ++ flat_map (let_holds k) rest
+    by true = refl
+    by false = refl
 
 -- the handles of a map as items hold what the map held
 pub places_hold : (k : Key) (w : Handles) → flat_map (let_holds k) (places w) ≡ listed (of_key k w)
-places_hold keys.Importance w = by w.importance w.bank w.user
-  where
-    by : (a b d : Option ℕ) → flat_map (let_holds keys.Importance) (naming.item keys.Importance a ++ (naming.item keys.Bank b ++ naming.item keys.User d)) ≡ listed a
-    by None None None = refl
-    by None None (Some d) = refl
-    by None (Some b) None = refl
-    by None (Some b) (Some d) = refl
-    by (Some a) None None = refl
-    by (Some a) None (Some d) = refl
-    by (Some a) (Some b) None = refl
-    by (Some a) (Some b) (Some d) = refl
-places_hold keys.Bank w = by w.importance w.bank w.user
-  where
-    by : (a b d : Option ℕ) → flat_map (let_holds keys.Bank) (naming.item keys.Importance a ++ (naming.item keys.Bank b ++ naming.item keys.User d)) ≡ listed b
-    by None None None = refl
-    by None None (Some d) = refl
-    by None (Some b) None = refl
-    by None (Some b) (Some d) = refl
-    by (Some a) None None = refl
-    by (Some a) None (Some d) = refl
-    by (Some a) (Some b) None = refl
-    by (Some a) (Some b) (Some d) = refl
-places_hold keys.User w = by w.importance w.bank w.user
-  where
-    by : (a b d : Option ℕ) → flat_map (let_holds keys.User) (naming.item keys.Importance a ++ (naming.item keys.Bank b ++ naming.item keys.User d)) ≡ listed d
-    by None None None = refl
-    by None None (Some d) = refl
-    by None (Some b) None = refl
-    by None (Some b) (Some d) = refl
-    by (Some a) None None = refl
-    by (Some a) None (Some d) = refl
-    by (Some a) (Some b) None = refl
-    by (Some a) (Some b) (Some d) = refl
+places_hold keys.Importance w = hold_one keys.Importance keys.Importance w.importance _
+    ∙ (ap (λ xs. listed w.importance ++ xs) (hold_one keys.Importance keys.Bank w.bank _ ∙ (hold_one keys.Importance keys.User w.user _ ∙ hold_one keys.Importance keys.Test w.test [])) ∙ nil_right (listed w.importance))
+places_hold keys.Bank w = hold_one keys.Bank keys.Importance w.importance _ ∙ (hold_one keys.Bank keys.Bank w.bank _
+    ∙ (ap (λ xs. listed w.bank ++ xs) (hold_one keys.Bank keys.User w.user _ ∙ hold_one keys.Bank keys.Test w.test []) ∙ nil_right (listed w.bank)))
+places_hold keys.User w = hold_one keys.User keys.Importance w.importance _ ∙ (hold_one keys.User keys.Bank w.bank _ ∙ (hold_one keys.User keys.User w.user _
+    ∙ (ap (λ xs. listed w.user ++ xs) (hold_one keys.User keys.Test w.test []) ∙ nil_right (listed w.user))))
+places_hold keys.Test w = hold_one keys.Test keys.Importance w.importance _ ∙ (hold_one keys.Test keys.Bank w.bank _ ∙ (hold_one keys.Test keys.User w.user _
+    ∙ (hold_one keys.Test keys.Test w.test [] ∙ nil_right (listed w.test))))

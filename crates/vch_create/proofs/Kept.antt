@@ -8,14 +8,14 @@ use Rattle.vch_machine.specs.State.{Handles, Tasked}
 use Rattle.vch_state.specs.declared.frame.Frame.{Frame}
 use Rattle.vch_state.specs.Plain.{Plain, Part}
 use Rattle.vch_state.specs.Shape.{Pairwise, IsSlotOf, IsName, IsMessage, IsFrame, IsTask}
-use Rattle.vch_state.proofs.Stable.{pairwise, optional}
+use Rattle.vch_state.proofs.CallerLemmas.{pairwise, optional}
 
 module _ (c : Plain) (ts : List Part) (table : List (Option Cell)) (history : List Entry) (spare : ℕ) where
   abbrev pub then_ : Plain
   then_ = record c { tasks = ts; table = table; history = history; spare = spare }
 
   pub frame_kept : (call : Option Call) (f : Frame) (g : machine.Frame) → IsFrame c call f g → IsFrame then_ call f g
-  frame_kept call f g p = record { forming = p.forming; at_byte = p.at_byte; keys_ = p.keys_; receipt = p.receipt; lets = p.lets; claim = p.claim; forms = p.forms; takes = p.takes }
+  frame_kept call f g p = record { answered = p.answered; forming = p.forming; at_byte = p.at_byte; keys_ = p.keys_; receipt = p.receipt; lets = p.lets; claim = p.claim; forms = p.forms; takes = p.takes }
 
   module _ (kept : (r : ℕ) (w : Handles) → IsSlotOf c r w → IsSlotOf then_ r w) where
     pub names_kept : (ns : List _) (os : List _) → Pairwise (IsName c) ns os → Pairwise (IsName then_) ns os

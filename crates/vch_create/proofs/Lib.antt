@@ -1,5 +1,4 @@
 pub mod OneTask
-pub mod RefusedFits
 pub mod Items
 pub mod Quiet
 pub mod Refused
@@ -28,6 +27,8 @@ pub mod Loses
 pub mod LosesEvent
 pub mod WorkRecords
 pub mod WorkShares
+pub mod WorkKeys
+pub mod WorkReads
 pub mod WorkStands
 pub mod WorkShared
 pub mod WorkEvent

@@ -1,5 +1,5 @@
 -- The map loses a key: what the parts stand for then.
-use Rattle.std.proofs.Common.{◌≡◌, ℕ, ◌+◌, ◌-◌, ◌<◌, ◌≤◌, List, [], ◌∷◌, ◌++◌, refl, arith, sym, ap, ◌∙◌, length, drop, subst, Option, Some, None}
+use Rattle.std.proofs.Common.{false, ◌≡◌, ℕ, ◌+◌, ◌-◌, ◌<◌, ◌≤◌, List, [], ◌∷◌, ◌++◌, refl, arith, sym, ap, ◌∙◌, length, drop, subst, Option, Some, None}
 use Rattle.std.specs.List.{flat_map}
 use Rattle.vch_base.specs.declared.key.Key.{Key}
 use Rattle.vch_base.specs.Keys.{number_of}
@@ -11,7 +11,8 @@ use Rattle.vch_value.specs.Picture.{Picture}
 use Rattle.vch_model.specs.declared.call.Call.TheVariants as calls
 use Rattle.vch_model.specs.declared.lists.Scenario.{Scenario}
 use Rattle.vch_machine.specs.State as machine
-use Rattle.vch_machine.specs.State.{of_key, with_key, Handles, Machine, tasked}
+use Rattle.vch_base.specs.Keyed.{of_key, with_key}
+use Rattle.vch_machine.specs.State.{Handles, Machine, tasked}
 use Rattle.vch_machine.specs.Frames as frames
 use Rattle.vch_machine.specs.Naming.{item}
 use Rattle.vch_machine.specs.Next.{current}
@@ -23,19 +24,12 @@ use Rattle.vch_state.specs.Pictures.{picture_of, frame_holds, let_holds, listed}
 use Rattle.vch_state.specs.Bounds.{open_of}
 use Rattle.vch_state.specs.Stands.{StandsFor, KeyStands}
 use Rattle.vch_state.specs.Moves.{with_frame_at, let_at}
-use Rattle.vch_state.proofs.Stable.{task_stays}
-use Rattle.vch_state.proofs.Maps.{at_key, map_with}
-use Rattle.vch_state.proofs.Replaced.{pictured, picture_by, held_before, held_behind, receipts_before, receipts_behind, claims_before, claims_behind, picture_now, picture_then, shape_then, framed}
-use Rattle.vch_state.proofs.Spending.{Paid, paid_then, unanswered_then, begun_then, open_then}
-use Rattle.vch_state.proofs.Keys.{same_key_refl, of_with}
-use Rattle.vch_state.proofs.FrameParts.{frames_of}
-use Rattle.vch_state.proofs.Records.{asks_behind, work_paid, makes_paid}
-use Rattle.vch_state.proofs.Refers.{taken_frame}
+use Rattle.vch_state.proofs.CallerLemmas.{task_stays, at_key, map_with, pictured, picture_by, held_before, held_behind, receipts_before, receipts_behind, claims_before, claims_behind, picture_now, picture_then, shape_then, framed, Paid, paid_then, unanswered_then, begun_then, open_then, of_with, same_key_refl, frames_of, asks_behind, work_paid, makes_paid, taken_frame}
 use Rattle.vch_create.proofs.Quiet.{forming_frame, forming_machine}
 
 -- a frame whose map lost a key: it is at the next record
 abbrev pub lost_machine : Key → Handles → ℕ → machine.Frame
-lost_machine k w at = record { forming = Some (with_key k None w); at_byte = at; keys = []; receipt = None; lets = item k (of_key k w); claim = None }
+lost_machine k w at = record { answered = false; forming = Some (with_key k None w); at_byte = at; keys = []; receipt = None; lets = item k (of_key k w); claim = None }
 
 module _ (sc : Scenario) (k : Key) (c : Plain) (m : Machine) (t : ℕ) (positive : 0 < t) (inside : t - 1 < length c.tasks)
     (bytes : List ℕ) (r : Recipe) (left : List ℕ) (v : Indices) (at key : ℕ) (w : Handles) (keys : List Key)
@@ -86,6 +80,7 @@ module _ (sc : Scenario) (k : Key) (c : Plain) (m : Machine) (t : ℕ) (positive
 
   new_frame : IsFrame then_parts (Some (calls.Create bytes)) F2 G2
   new_frame = record {
+    answered = refl;
     forming = map_with then_parts k v u w None None bounded sets tt old_frame.forming;
     at_byte = refl;
     keys_ = refl;
@@ -114,13 +109,13 @@ module _ (sc : Scenario) (k : Key) (c : Plain) (m : Machine) (t : ℕ) (positive
       by (Some a) = rw (same_key_refl k) refl
 
   is_now : picture_of k c m ≡ picture_by k c m t (Some F) (Some G)
-  is_now = picture_now k c m t s.shape.long inside ∙ rw (own, task) refl
+  is_now = picture_now k c m t positive s.shape.long inside ∙ rw (own, task) refl
 
   both_hold : picture_by k c m t (Some F2) (Some G2) ≡ picture_by k c m t (Some F) (Some G)
   both_hold = ap (λ hs. pictured (held_before k c m t ++ (hs ++ held_behind k c m t)) (receipts_before k c m t ++ receipts_behind k c m t) (claims_before k c m t ++ claims_behind k c m t)) same_held
 
   picture_after : picture_of k then_parts then_machine ≡ picture_of k c m
-  picture_after = picture_then k c m t s.shape.long inside then_parts then_machine (Some F2) (Some G2) refl refl refl ∙ both_hold ∙ sym is_now
+  picture_after = picture_then k c m t positive s.shape.long inside then_parts then_machine (Some F2) (Some G2) refl refl refl ∙ both_hold ∙ sym is_now
 
   key_after : KeyStands k then_parts then_machine
   key_after = let z : KeyStands k c m = s.keyed.0 in record {

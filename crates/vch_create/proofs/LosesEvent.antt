@@ -1,11 +1,14 @@
 -- From what the code of a lost key does to the machine's.
-use Rattle.std.proofs.Common.{◌≡◌, ℕ, ◌+◌, ◌-◌, ◌<◌, ◌≤◌, true, false, List, [], ◌∷◌, ◌++◌, refl, sym, ap, ◌∙◌, length, drop, get_or, subst, Some, None}
+use Rattle.std.proofs.Common.{◌≡◌, ℕ, ◌+◌, ◌-◌, ◌<◌, ◌≤◌, true, false, List, [], ◌∷◌, ◌++◌, refl, sym, ap, ◌∙◌, length, drop, subst, Some, None}
+use Rattle.vch_base.specs.Tasks.{set_task, at_task}
 use Rattle.std.specs.Prelude.{IfSome, Ok}
-use Rattle.std.proofs.Math.ListN.{set}
 use Rattle.vch_base.specs.declared.key.Key.TheVariants as keys
+use Rattle.vch_base.specs.Keys.{number_of}
+use Rattle.vch_table.specs.Indices.{index_at}
 use Rattle.vch_base.specs.declared.kind.Kind.TheVariants as kinds
 use Rattle.vch_recipe.specs.Recipes.{first_of}
 use Rattle.vch_recipe.specs.declared.recipe.Recipe.{Recipe}
+use Rattle.vch_model.specs.UserOnly.{IsUserOnly}
 use Rattle.vch_model.specs.Lines.{is_task}
 use Rattle.vch_model.specs.declared.call.Call.{Call}
 use Rattle.vch_model.specs.declared.call.Call.TheVariants as calls
@@ -15,7 +18,7 @@ use Rattle.vch_machine.specs.Making.{make_done}
 use Rattle.vch_machine.specs.Next.{current, nth_call}
 use Rattle.vch_machine.specs.Working.{bytes_of, size_of}
 use Rattle.vch_machine.specs.Events.{event}
-use Rattle.vch_legal.proofs.Keeps.{event_keeps}
+use Rattle.vch_legal.proofs.CallerLemmas.{event_keeps}
 use Rattle.vch_state.specs.declared.frame.Frame.{Frame}
 use Rattle.vch_state.specs.declared.frame.Claiming.{Claiming}
 use Rattle.vch_state.specs.declared.frames.Working.{Working}
@@ -25,9 +28,7 @@ use Rattle.vch_state.specs.Shape.{Indices, index_of}
 use Rattle.vch_state.specs.Stands.{StandsFor}
 use Rattle.vch_state.specs.Moves.{PutsIndex, let_at}
 use Rattle.vch_state.specs.Reached.{plain_of, parts_in, IsState, IsNext, Reached, Stands, value_kind}
-use Rattle.vch_state.proofs.Glue.{put_taken, own_frame, in_parts, in_frames}
-use Rattle.vch_state.proofs.Maps.{keyed_few}
-use Rattle.vch_state.proofs.Refers.{taken_frame}
+use Rattle.vch_state.proofs.CallerLemmas.{put_taken, own_frame, in_parts, in_frames, room_for, taken_frame}
 use Rattle.vch_create.specs.Makes.{IsLoss}
 use Rattle.vch_create.proofs.Loses.{then_parts, then_machine, lost_stands}
 use Rattle.vch_create.proofs.MakeCalls.{same_frame, record_there}
@@ -35,7 +36,7 @@ use Rattle.vch_create.proofs.MakeNext.{IsAsking, asking, Makes, makes_seen}
 use Rattle.vch_create.proofs.Quiet.{forming_frame, forming_machine}
 use Rattle.vch_create.proofs.WorkNext.{reached_state, state_of}
 
-module _ (p : Parts) (t : ℕ) (task : is_task p.scenario t ≡ true) (next : IsNext p t (Some kinds.Make)) (idle : value_kind (frame_of p.frames t) ≡ None) (reached : Reached p) where
+module _ (p : Parts) (t : ℕ) (task : is_task p.scenario t ≡ true) (next : IsNext p t (Some kinds.Make)) (idle : value_kind (frame_of p.frames t) ≡ None) (built : IsUserOnly p.scenario) (reached : Reached p) where
   pub frame_there : (A : Type 0) → frame_of p.frames t ≡ None → A
   frame_there A e = absurd (asking p t task next idle ⊥ reached (λ f v bytes r rest z. none (sym z.own ∙ e)))
     where
@@ -49,9 +50,9 @@ module _ (p : Parts) (t : ℕ) (task : is_task p.scenario t ≡ true) (next : Is
       none q = cc
 
   module _ (f : Frame) (own : frame_of p.frames t ≡ Some f) where
-    pub map_few : IfSome f.forming (λ v. length v < 4)
-    map_few = asking p t task next idle _ reached (λ f2 v bytes r rest z. reached_state p _ reached (λ m st. makes_seen p t task next idle m _ st f2 v bytes r rest z (λ g w y.
-        subst (λ (x : Frame). IfSome x.forming (λ v. length v < 4)) (same_frame (frame_of p.frames t) f2 f z.own own) (subst (λ o. IfSome o (λ v. length v < 4)) (sym z.forms) (keyed_few v y.both.map.1)))))
+    pub map_few : IfSome f.forming (λ v. index_at v (number_of keys.User) ≡ None → length v < 4)
+    map_few = asking p t task next idle _ reached (λ f2 v bytes r rest z. reached_state p _ reached (λ m st. makes_seen p t task next idle built m _ st f2 v bytes r rest z (λ g w y.
+        subst (λ (x : Frame). IfSome x.forming (λ v. index_at v (number_of keys.User) ≡ None → length v < 4)) (same_frame (frame_of p.frames t) f2 f z.own own) (subst (λ o. IfSome o (λ v. index_at v (number_of keys.User) ≡ None → length v < 4)) (sym z.forms) (room_for v keys.User y.both.map.1)))))
 
     module _ (f3 : Frame) (puts : IfSome f.forming (λ v. PutsIndex keys.User None v f f3)) (call : Call) (is : nth_call p.scenario t (begun_of p.frames t) ≡ Some call) where
       pub place_there : f3.at ≤ length (bytes_of call)
@@ -101,7 +102,7 @@ module _ (p : Parts) (t : ℕ) (task : is_task p.scenario t ≡ true) (next : Is
           abbrev Next : Machine
           Next = then_machine p.scenario keys.User (plain_of p) m t range.0 range.1 bytes r rest v f.at f.key w g.keys y.both.create z.first own_is twin_is s put_now.voucher put_now.bounded put_now.sets
 
-          done_is : make_done m t (forming_machine w f.at g.keys) w (calls.Create bytes) keys.User (Ok None) ≡ Next
+          done_is : make_done p.scenario.version m t (forming_machine w f.at g.keys) w (calls.Create bytes) keys.User (Ok None) ≡ Next
           done_is = rw (z.first, y.key) refl
 
           call_is : call ≡ calls.Create bytes
@@ -121,8 +122,8 @@ module _ (p : Parts) (t : ℕ) (task : is_task p.scenario t ≡ true) (next : Is
               whole f f3 u n a b d x e = rw (a, b, d, x, e) refl
 
           tasks_then : parts_in p.spaces frames2 ≡ NextParts.tasks
-          tasks_then = ap (parts_in p.spaces) put ∙ put_taken p.spaces p.frames t (Some (record f3 { at = place; key = 0 })) (in_frames p m t s task)
-              ∙ ap (λ x. set (parts_in p.spaces p.frames) (t - 1) (with_frame (get_or (parts_in p.spaces p.frames) (t - 1) idle_part) (Some x))) frame_then
+          tasks_then = ap (parts_in p.spaces) put ∙ put_taken p.spaces p.frames t (Some (record f3 { at = place; key = 0 })) range.0 (in_frames p m t s task)
+              ∙ ap (λ x. set_task (parts_in p.spaces p.frames) t (with_frame (at_task (parts_in p.spaces p.frames) t idle_part) (Some x))) frame_then
 
           lost_then : event p.scenario false m t ≡ Some Next → StandsFor p.scenario (keys.User ∷ []) (plain_of new_parts) Next
           lost_then happens = subst (λ ts. StandsFor p.scenario (keys.User ∷ []) (record (plain_of new_parts) { tasks = ts }) Next) (sym tasks_then)
@@ -130,7 +131,7 @@ module _ (p : Parts) (t : ℕ) (task : is_task p.scenario t ≡ true) (next : Is
               (event_keeps p.scenario false t m Next s.fits happens))
 
           loss : (f2 : machine.Frame) → (tasked m t).frame ≡ Some f2 → (w2 : Handles) → f2.forming ≡ Some w2 → (call2 : Call) → current p.scenario m t ≡ Some call2
-              → event p.scenario false m t ≡ Some (make_done m t f2 w2 call2 keys.User (Ok None)) → Stands new_parts (make_done m t f2 w2 call2 keys.User (Ok None))
+              → event p.scenario false m t ≡ Some (make_done p.scenario.version m t f2 w2 call2 keys.User (Ok None)) → Stands new_parts (make_done p.scenario.version m t f2 w2 call2 keys.User (Ok None))
           unfolding IsState
           loss f2 a w2 b call2 d happens = by f2 w2 call2 (one_frame (sym a ∙ twin_is)) (one_map w2 (sym (ap (λ (x : machine.Frame). x.forming) (one_frame (sym a ∙ twin_is))) ∙ b)) (one_call (sym d ∙ y.both.create)) happens
             where
@@ -144,9 +145,9 @@ module _ (p : Parts) (t : ℕ) (task : is_task p.scenario t ≡ true) (next : Is
               one_map w2 e = cc
 
               by : (f2 : machine.Frame) (w2 : Handles) (call2 : Call) → f2 ≡ forming_machine w f.at g.keys → w2 ≡ w → call2 ≡ calls.Create bytes
-                  → event p.scenario false m t ≡ Some (make_done m t f2 w2 call2 keys.User (Ok None)) → Stands new_parts (make_done m t f2 w2 call2 keys.User (Ok None))
+                  → event p.scenario false m t ≡ Some (make_done p.scenario.version m t f2 w2 call2 keys.User (Ok None)) → Stands new_parts (make_done p.scenario.version m t f2 w2 call2 keys.User (Ok None))
               by f2 w2 call2 e q u happens =
-                  let same : make_done m t f2 w2 call2 keys.User (Ok None) ≡ Next = rw (e, q, u) done_is in
+                  let same : make_done p.scenario.version m t f2 w2 call2 keys.User (Ok None) ≡ Next = rw (e, q, u) done_is in
                   subst (λ n. Stands new_parts n) (sym same) (st.0, lost_then (happens ∙ ap Some same))
 
         pub is_loss : IsLoss t p new_parts
@@ -158,7 +159,7 @@ module _ (p : Parts) (t : ℕ) (task : is_task p.scenario t ≡ true) (next : Is
           where
             by : (f4 : Frame) (v : Indices) (bytes : List ℕ) (r : Recipe) (rest : List ℕ) → f4 ≡ f → IsAsking p t f4 v bytes r rest
                 → (m : Machine) → Stands p m → (f2 : machine.Frame) → (tasked m t).frame ≡ Some f2 → (w2 : Handles) → f2.forming ≡ Some w2 → (call2 : Call) → current p.scenario m t ≡ Some call2
-                → event p.scenario false m t ≡ Some (make_done m t f2 w2 call2 keys.User (Ok None)) → Stands new_parts (make_done m t f2 w2 call2 keys.User (Ok None))
+                → event p.scenario false m t ≡ Some (make_done p.scenario.version m t f2 w2 call2 keys.User (Ok None)) → Stands new_parts (make_done p.scenario.version m t f2 w2 call2 keys.User (Ok None))
             by f4 v bytes r rest e z m st f2 a w2 b call2 d happens =
                 let z2 : IsAsking p t f v bytes r rest = subst (λ x. IsAsking p t x v bytes r rest) e z in
-                makes_seen p t task next idle m _ st f v bytes r rest z2 (λ g w y. loss v bytes r rest z2 m st g w y f2 a w2 b call2 d happens)
+                makes_seen p t task next idle built m _ st f v bytes r rest z2 (λ g w y. loss v bytes r rest z2 m st g w y f2 a w2 b call2 d happens)

@@ -22,7 +22,7 @@ use Rattle.vch_machine.specs.State.{Machine, Tasked}
 use Rattle.vch_legal.specs.Facts.{bit, burden, spot, total}
 use Rattle.vch_state.specs.Bounds.{Limited, in_all, sum_tasks, begun_in, flying_in, flying_of}
 use Rattle.vch_state.specs.Stands.{StandsFor}
-use Rattle.vch_state.proofs.Spending.{begun_bound, refers_bound}
+use Rattle.vch_state.proofs.CallerLemmas.{begun_bound, refers_bound, record_inside}
 use Rattle.vch_create.proofs.FreshLive.{free_handle}
 use Rattle.vch_create.proofs.MadeLive.{IsFree}
 use Rattle.vch_create.proofs.MakeGives.{value_is}
@@ -30,6 +30,7 @@ use Rattle.std.proofs.lemmas.List.{length-reverse}
 use Rattle.vch_value.specs.declared.flight.Made.TheVariants as made
 use Rattle.vch_value.specs.Flight.{Receipt}
 use Rattle.vch_state.specs.Pictures.{picture_of}
+use Rattle.vch_model.specs.UserOnly.{IsUserOnly}
 use Rattle.vch_model.specs.Lines.{is_task}
 use Rattle.vch_model.specs.Scenarios.{line_count}
 use Rattle.vch_model.specs.declared.call.Call.{Call}
@@ -39,7 +40,6 @@ use Rattle.vch_state.specs.declared.frame.Frame.{Frame}
 use Rattle.vch_state.specs.declared.parts.Parts.{Parts}
 use Rattle.vch_state.specs.Plain.{frame_of, begun_of}
 use Rattle.vch_state.specs.Reached.{plain_of, parts_in, IsNext, Reached, Stands, value_kind}
-use Rattle.vch_state.proofs.Records.{record_inside}
 use Rattle.vch_create.specs.declared.question.Question.{Question}
 use Rattle.vch_create.proofs.Codes.{own_refusal}
 use Rattle.vch_create.specs.Makes.{Answers, HasRoom, IsAsked, IsMadeEntry, IsQuestion, receipts_in}
@@ -99,13 +99,13 @@ module _ (p : Parts) (t : ℕ) (task : is_task p.scenario t ≡ true) (next : Is
         let e : q.at ≡ f.at = a.3 in
         omega (arith, e, l))
 
-    pub asked_there : IfSome q.previous (λ i. IsSome (entry_at p.user_entries.slots i))
-    asked_there = asking p t task next idle _ reached (λ f v bytes r rest z. reached_state p _ reached (λ m st. makes_seen p t task next idle m _ st f v bytes r rest z (λ g w y.
+    pub asked_there : IsUserOnly p.scenario → IfSome q.previous (λ i. IsSome (entry_at p.user_entries.slots i))
+    asked_there built = asking p t task next idle _ reached (λ f v bytes r rest z. reached_state p _ reached (λ m st. makes_seen p t task next idle built m _ st f v bytes r rest z (λ g w y.
         let a = is f v bytes r rest z.own z.forms z.call z.first in
         subst (λ o. IfSome o (λ i. IsSome (entry_at p.user_entries.slots i))) (sym a.1) (previous_there p t task next idle f v bytes r rest z m st g w y))))
 
-    pub asked_live : IfSome (previous_handle p.user_entries.slots q.previous) (λ h. IsSome (live_at p.user.slots h))
-    asked_live = asking p t task next idle _ reached (λ f v bytes r rest z. reached_state p _ reached (λ m st. makes_seen p t task next idle m _ st f v bytes r rest z (λ g w y.
+    pub asked_live : IsUserOnly p.scenario → IfSome (previous_handle p.user_entries.slots q.previous) (λ h. IsSome (live_at p.user.slots h))
+    asked_live built = asking p t task next idle _ reached (λ f v bytes r rest z. reached_state p _ reached (λ m st. makes_seen p t task next idle built m _ st f v bytes r rest z (λ g w y.
         let a = is f v bytes r rest z.own z.forms z.call z.first in
         subst (λ o. IfSome (previous_handle p.user_entries.slots o) (λ h. IsSome (live_at p.user.slots h))) (sym a.1) (previous_is_live p t task next idle f v bytes r rest z m st g w y))))
 
@@ -120,17 +120,17 @@ module _ (p : Parts) (t : ℕ) (task : is_task p.scenario t ≡ true) (next : Is
         rw (e, u, g) refl)
 
     -- the answer is that of what the machine asks
-    pub ask_answers : (content : List ℕ) → ((bytes : List ℕ) (r : Recipe) (rest : List ℕ) → nth_call p.scenario t q.begun ≡ Some (calls.Create bytes) → first_of (drop q.at bytes) ≡ One r rest → content ≡ r.content)
+    pub ask_answers : IsUserOnly p.scenario → (content : List ℕ) → ((bytes : List ℕ) (r : Recipe) (rest : List ℕ) → nth_call p.scenario t q.begun ≡ Some (calls.Create bytes) → first_of (drop q.at bytes) ≡ One r rest → content ≡ r.content)
         → (flying tasks : ℕ) → flying ≡ length (receipts_in keys.User (take tasks p.frames)) → tasks ≡ length p.scenario.flags → p.user.rules ≡ user_rules
         → (result : Result Made GetFault) (e2 : Entries) (kept2 : Kept)
         → value_calls.Makes p.user (answer p.user.rules t q.command (managers.previous_of p.user.slots (previous_handle p.user_entries.slots q.previous)) content) result kept2
         → (e2.slots ≡ p.user_entries.slots) × (p.user_entries.spare ≤ e2.spare)
         → ((x : Picture) → length x.receipts ≡ flying → picture.Stands x p.user_entries p.user → picture.Stands (got_picture (got_of result) x) e2 kept2)
         → Answers t result p (record p { user_entries = e2; user = kept2 })
-    ask_answers content read flying tasks count all rules result e2 kept2 makes places stands = record { others = refl; slots = places.0; places = places.1; own = own_refusal p.user kept2 t q.command _ content result makes; gives = gives }
+    ask_answers built content read flying tasks count all rules result e2 kept2 makes places stands = record { others = refl; slots = places.0; places = places.1; own = own_refusal p.user kept2 t q.command _ content result makes; gives = gives }
       where
         gives : (m : Machine) → Stands p m → (reply : Result (Option Value) ℤ) × IsAsked p m t reply × value_calls.Makes p.user reply result kept2 × picture.Stands (got_picture (got_of result) (picture_of keys.User (plain_of p) m)) e2 kept2
-        gives m st = asking p t task next idle _ reached (λ f v bytes r rest z. makes_seen p t task next idle m _ st f v bytes r rest z (λ g w y.
+        gives m st = asking p t task next idle _ reached (λ f v bytes r rest z. makes_seen p t task next idle built m _ st f v bytes r rest z (λ g w y.
             let a = is f v bytes r rest z.own z.forms z.call z.first in
             let b : nth_call p.scenario t q.begun ≡ Some (calls.Create bytes) = ap (nth_call p.scenario t) a.2 ∙ z.call in
             let d : content ≡ r.content = read bytes r rest b (ap (λ i. first_of (drop i bytes)) a.3 ∙ z.first) in (

@@ -10,10 +10,13 @@ use Rattle.vch_base.specs.declared.manager.GetFault.TheVariants as fault
 use Rattle.vch_recipe.specs.declared.recipe.Recipe.{Recipe}
 use Rattle.vch_value.specs.declared.flight.Made.{Made}
 use Rattle.vch_value.specs.declared.flight.Made.TheVariants as made
+use Rattle.vch_model.specs.UserOnly.{IsUserOnly}
+use Rattle.vch_model.specs.declared.lists.Scenario.{Scenario}
 use Rattle.vch_model.specs.Lines.{is_task}
 use Rattle.vch_model.specs.declared.call.Call.TheVariants as calls
 use Rattle.vch_machine.specs.State as machine
-use Rattle.vch_machine.specs.State.{of_key, with_key, Handles, Machine, Tasked, tasked, idle, handle_of, living_at}
+use Rattle.vch_base.specs.Keyed.{of_key}
+use Rattle.vch_machine.specs.State.{Handles, Machine, Tasked, tasked, idle, handle_of, living_at}
 use Rattle.vch_machine.specs.Frames.{refuse}
 use Rattle.vch_machine.specs.Making.{make_done}
 use Rattle.vch_machine.specs.Next.{current, next_kind}
@@ -59,7 +62,7 @@ make_after p q new t r f = record {
   event = λ m st. subst (λ sc. (n : Machine) × (event sc f.want m t ≡ Some n) × (next_kind sc m t ≡ Some kinds.Make) × IsState sc (plain_of new) n) r.scenario (f.event m (roomier_state p q r m st));
 }
 
-module _ (p : Parts) (t : ℕ) (task : is_task p.scenario t ≡ true) (next : IsNext p t (Some kinds.Make)) (idle_ : value_kind (frame_of p.frames t) ≡ None) (reached : Reached p) where
+module _ (p : Parts) (t : ℕ) (task : is_task p.scenario t ≡ true) (next : IsNext p t (Some kinds.Make)) (idle_ : value_kind (frame_of p.frames t) ≡ None) (built : IsUserOnly p.scenario) (reached : Reached p) where
   pub roomier_next : (q : Parts) → IsRoomier p q → IsNext q t (Some kinds.Make)
   roomier_next q r = next_moves p q t (Some kinds.Make) task reached next r.scenario r.spaces r.frames r.phase
 
@@ -71,11 +74,11 @@ module _ (p : Parts) (t : ℕ) (task : is_task p.scenario t ≡ true) (next : Is
   Seen A m = (f : Frame) (v : Indices) (bytes : List ℕ) (r : Recipe) (rest : List ℕ) (z : IsAsking p t f v bytes r rest) (g : machine.Frame) (w : Handles) (y : Makes p t task next idle_ m f v bytes r g w) → A
 
   seen : (A : Type 0) (m : Machine) → Stands p m → Seen A m → A
-  seen A m st h = asking p t task next idle_ A reached (λ f v bytes r rest z. makes_seen p t task next idle_ m A st f v bytes r rest z (λ g w y. h f v bytes r rest z g w y))
+  seen A m st h = asking p t task next idle_ A reached (λ f v bytes r rest z. makes_seen p t task next idle_ built m A st f v bytes r rest z (λ g w y. h f v bytes r rest z g w y))
 
   -- Refusals.
 
-  -- with want of memory
+  -- out of memory
   pub wanted_follows : (q new : Parts) (code : Code) → code.number ≡ pos 6 → IsRoomier p q → IsRefusal t code.number q new → MayFollow kinds.Make t p new
   unfolding IsEventBy
   wanted_follows q new code six r f = record { scenario = f.scenario ∙ r.scenario; want = true; event = event_then }
@@ -121,6 +124,10 @@ module _ (p : Parts) (t : ℕ) (task : is_task p.scenario t ≡ true) (next : Is
 
   -- No value.
 
+  -- the state after, by the scenario whose version tells the next place
+  abbrev lost : Scenario → (m : Machine) (x : Frame) (v : Indices) (bytes : List ℕ) (rec : Recipe) (rest : List ℕ) (z : IsAsking p t x v bytes rec rest) (st : Stands p m) (g : machine.Frame) (w : Handles) → Makes p t task next idle_ m x v bytes rec g w → Machine
+  lost sc m x v bytes rec rest z st g w y = make_done sc.version m t (gives.G p t task next idle_ x v bytes rec rest z m st g w y) w (calls.Create bytes) keys.User (Ok None)
+
   pub nothing_follows : (q new : Parts) → Answers t (Ok made.Nothing) p q → IsLoss t q new → MayFollow kinds.Make t p new
   unfolding IsEventBy
   nothing_follows q new a f = record { scenario = f.scenario ∙ ap (λ (x : Parts). x.scenario) a.others; want = false; event = event_then }
@@ -130,12 +137,14 @@ module _ (p : Parts) (t : ℕ) (task : is_task p.scenario t ≡ true) (next : Is
           let b = a.gives m st in
           let i = nothing_is p.user q.user b.0 b.2 in
           let r : IsRoomier p q = asked_roomier p q t (Ok made.Nothing) a i.1 in
-          let happens : event p.scenario false m t ≡ Some (make_done m t (gives.G p t task next idle_ x v bytes rec rest z m st g w y) w (calls.Create bytes) keys.User (Ok None)) =
+          let happens : event p.scenario false m t ≡ Some (make_done p.scenario.version m t (gives.G p t task next idle_ x v bytes rec rest z m st g w y) w (calls.Create bytes) keys.User (Ok None)) =
           gives.answered p t task next idle_ x v bytes rec rest z m st g w y (Ok None) (subst (IsAsked p m t) i.0 b.1) in (
-            make_done m t (gives.G p t task next idle_ x v bytes rec rest z m st g w y) w (calls.Create bytes) keys.User (Ok None),
+            make_done p.scenario.version m t (gives.G p t task next idle_ x v bytes rec rest z m st g w y) w (calls.Create bytes) keys.User (Ok None),
             happens,
             gives.kind_is p t task next idle_ x v bytes rec rest z m st g w y,
-            subst (λ sc. IsState sc (plain_of new) (make_done m t (gives.G p t task next idle_ x v bytes rec rest z m st g w y) w (calls.Create bytes) keys.User (Ok None))) (f.scenario ∙ r.scenario)
+            subst (λ sc. IsState sc (plain_of new) (lost p.scenario m x v bytes rec rest z st g w y)) (f.scenario ∙ r.scenario)
+                (subst (λ sc. IsState new.scenario (plain_of new) (lost sc m x v bytes rec rest z st g w y)) r.scenario
                 (f.stands m (roomier_state p q r m st) (gives.G p t task next idle_ x v bytes rec rest z m st g w y) (gives.twin_is p t task next idle_ x v bytes rec rest z m st g w y) w refl (calls.Create bytes)
-                (ap (λ sc. current sc m t) r.scenario ∙ y.both.create) (ap (λ sc. event sc false m t) r.scenario ∙ happens)),
+                (ap (λ sc. current sc m t) r.scenario ∙ y.both.create)
+                (ap (λ sc. event sc false m t) r.scenario ∙ happens ∙ ap (λ sc. Some (lost sc m x v bytes rec rest z st g w y)) (sym r.scenario)))),
           ))

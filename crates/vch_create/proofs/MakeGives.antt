@@ -16,7 +16,7 @@ use Rattle.vch_value.specs.Calls as value_calls
 use Rattle.vch_model.specs.Lines.{is_task}
 use Rattle.vch_model.specs.declared.call.Call.TheVariants as calls
 use Rattle.vch_machine.specs.State as machine
-use Rattle.vch_machine.specs.State.{of_key, Handles, Machine, tasked}
+use Rattle.vch_machine.specs.State.{Handles, Machine, tasked}
 use Rattle.vch_machine.specs.Frames.{refuse}
 use Rattle.vch_machine.specs.Making.{make_asked, make_done}
 use Rattle.vch_machine.specs.Next.{next_kind}
@@ -26,7 +26,7 @@ use Rattle.vch_state.specs.declared.parts.Parts.{Parts}
 use Rattle.vch_state.specs.Plain.{frame_of}
 use Rattle.vch_state.specs.Shape.{Indices}
 use Rattle.vch_state.specs.Reached.{IsNext, Stands, value_kind}
-use Rattle.vch_state.proofs.Glue.{event_is}
+use Rattle.vch_state.proofs.CallerLemmas.{event_is}
 use Rattle.vch_create.specs.Makes.{IsAsked}
 use Rattle.vch_create.proofs.MakeNext.{IsAsking, Makes, next_in}
 use Rattle.vch_create.proofs.Quiet.{forming_machine}
@@ -73,8 +73,8 @@ module _ (p : Parts) (t : ℕ) (task : is_task p.scenario t ≡ true) (next : Is
   pub kind_is : next_kind p.scenario m t ≡ Some kinds.Make
   kind_is = next_in p t (Some kinds.Make) m next st
 
-  pub answered : (reply : Result (Option Value) ℤ) → IsAsked p m t reply → event p.scenario false m t ≡ Some (make_done m t G w (calls.Create bytes) keys.User reply)
-  answered reply asked = event_is p.scenario false m t G kinds.Make _ task twin_is kind_is (rw y.both.create (ap (make_asked m t G w (calls.Create bytes)) (asked G w (calls.Create bytes) twin_is refl y.both.create)))
+  pub answered : (reply : Result (Option Value) ℤ) → IsAsked p m t reply → event p.scenario false m t ≡ Some (make_done p.scenario.version m t G w (calls.Create bytes) keys.User reply)
+  answered reply asked = event_is p.scenario false m t G kinds.Make _ task twin_is kind_is (rw y.both.create (ap (make_asked p.scenario.version m t G w (calls.Create bytes)) (asked G w (calls.Create bytes) twin_is refl y.both.create)))
 
   pub wanted : event p.scenario true m t ≡ Some (refuse m t G (calls.Create bytes) (pos 6))
   wanted = event_is p.scenario true m t G kinds.Make _ task twin_is kind_is (rw y.both.create refl)

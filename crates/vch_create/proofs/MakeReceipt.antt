@@ -1,5 +1,6 @@
 -- A Make that gives a receipt, of a value that was live or of a fresh one.
 use Rattle.std.proofs.Common.{◌≡◌, ℕ, suc, ◌+◌, ◌-◌, ◌<◌, ◌≤◌, true, false, List, [], ◌∷◌, ◌++◌, refl, arith, sym, ap, ◌∙◌, length, reverse, get_or, subst, Option, Some, None}
+use Rattle.vch_base.specs.Tasks.{set_task, at_task}
 use Rattle.std.specs.Prelude.{Result, Ok, ℤ, IfSome}
 use Rattle.std.proofs.Math.ListN.{set}
 use Rattle.std.specs.List.{count_by}
@@ -18,6 +19,7 @@ use Rattle.vch_value.specs.declared.flight.Made.TheVariants as made
 use Rattle.vch_value.specs.Flight.{Receipt}
 use Rattle.vch_value.specs.Picture as picture
 use Rattle.vch_value.specs.Picture.{Picture, made_picture}
+use Rattle.vch_model.specs.UserOnly.{IsUserOnly}
 use Rattle.vch_model.specs.Lines.{is_task, phases_in, lines_of}
 use Rattle.vch_model.specs.Rows as rows
 use Rattle.vch_model.specs.declared.call.Call.TheVariants as calls
@@ -25,12 +27,12 @@ use Rattle.vch_model.specs.declared.entry.Entry.{Entry}
 use Rattle.vch_model.specs.declared.entry.Entry.TheVariants as entries
 use Rattle.vch_model.specs.declared.lists.Scenario.{Scenario}
 use Rattle.vch_machine.specs.State as machine
-use Rattle.vch_machine.specs.State.{Keyed, of_key, with_key, Handles, Machine, Tasked, tasked, idle, handle_of, living_at}
+use Rattle.vch_base.specs.Keyed.{Keyed, of_key, with_key}
+use Rattle.vch_machine.specs.State.{Handles, Machine, Tasked, tasked, idle, handle_of, living_at}
 use Rattle.vch_machine.specs.Making.{Asked, made_at, minted, fresh_handle, given_receipt, race_claim, on_claims}
 use Rattle.vch_machine.specs.Events.{event}
 use Rattle.vch_legal.specs.Facts.{Fits}
-use Rattle.vch_legal.proofs.Keeps.{event_keeps}
-use Rattle.vch_legal.proofs.MakeSpots.{fresh_dead}
+use Rattle.vch_legal.proofs.CallerLemmas.{event_keeps, fresh_dead}
 use Rattle.vch_state.specs.declared.frame.Frame.{Frame}
 use Rattle.vch_state.specs.declared.frames.Working.{Working}
 use Rattle.vch_state.specs.declared.parts.Parts.{Parts}
@@ -41,10 +43,7 @@ use Rattle.vch_state.specs.Pictures.{picture_of}
 use Rattle.vch_state.specs.Bounds.{Spent, in_all, unanswered_in, begun_in, open_in, calls_of, sum_tasks}
 use Rattle.vch_state.specs.Stands.{StandsFor, IsLiving}
 use Rattle.vch_state.specs.Reached.{plain_of, parts_in, IsState, IsEventBy, IsNext, MayFollow, Reached, Stands, value_kind}
-use Rattle.vch_state.proofs.Glue.{put_taken, own_frame, in_parts, in_frames}
-use Rattle.vch_state.proofs.Refers.{taking_frame}
-use Rattle.vch_state.proofs.Replaced.{framed}
-use Rattle.vch_state.proofs.Sums.{sum_bounded}
+use Rattle.vch_state.proofs.CallerLemmas.{put_taken, own_frame, in_parts, in_frames, taking_frame, framed, sum_bounded}
 use Rattle.vch_create.specs.Makes.{Answers, HasRoom, IsAsked, IsMadeEntry}
 use Rattle.vch_create.proofs.AskFacts.{reply, asked_is, W}
 use Rattle.vch_create.proofs.FreshLive.{found_handle, absent_handle, fresh_is, free_is, used_is, used_few, free_handle, living_again, living_new, stored, absent_previous, tasks_given}
@@ -75,13 +74,13 @@ unanswered_few sc m spent =
     small n b l = omega (arith, l)
 
     begun : (i : ℕ) → (get_or m.tasks i idle).begun ≤ length (lines_of sc (1 + i))
-    begun i = let e : i + 1 ≡ 1 + i = omega arith in subst (λ u. (get_or m.tasks i idle).begun ≤ length (lines_of sc u)) e (spent.tasks i).begun
+    begun i = let e : suc i ≡ 1 + i = omega arith in subst (λ u. (get_or m.tasks i idle).begun ≤ length (lines_of sc u)) e (spent.tasks (suc i)).begun
 
     sums : (t : ℕ) (xs : List Tasked) → sum_tasks (unanswered_in sc) t xs + sum_tasks begun_in t xs ≡ sum_tasks (λ t x. length (lines_of sc t) - x.begun + x.begun) t xs + sum_tasks open_in t xs
     sums t [] = refl
     sums t (x ∷ xs) = let e : sum_tasks (unanswered_in sc) (t + 1) xs + sum_tasks begun_in (t + 1) xs ≡ sum_tasks (λ t x. length (lines_of sc t) - x.begun + x.begun) (t + 1) xs + sum_tasks open_in (t + 1) xs = sums (t + 1) xs in omega (arith, e)
 
-module _ (p : Parts) (t : ℕ) (task : is_task p.scenario t ≡ true) (next : IsNext p t (Some kinds.Make)) (idle_ : value_kind (frame_of p.frames t) ≡ None) (reached : Reached p)
+module _ (p : Parts) (t : ℕ) (task : is_task p.scenario t ≡ true) (next : IsNext p t (Some kinds.Make)) (idle_ : value_kind (frame_of p.frames t) ≡ None) (built : IsUserOnly p.scenario) (reached : Reached p)
     (f : Frame) (own : frame_of p.frames t ≡ Some f) (e2 : Entries) (k2 : Kept) (receipt : Receipt) (frames2 : List Working)
     (put : frames2 ≡ with_frame_of (with_frame_of p.frames t None) t (Some (record f { receipt = Some (record { key = keys.User; receipt = receipt }) }))) where
   -- what is seen of a state, with the frame in hand
@@ -91,7 +90,7 @@ module _ (p : Parts) (t : ℕ) (task : is_task p.scenario t ≡ true) (next : Is
       by : (f2 : Frame) (v : Indices) (bytes : List ℕ) (r : Recipe) (rest : List ℕ) → f2 ≡ f → IsAsking p t f2 v bytes r rest → A
       by f2 v bytes r rest e z =
           let z2 : IsAsking p t f v bytes r rest = subst (λ x. IsAsking p t x v bytes r rest) e z in
-          makes_seen p t task next idle_ m A st f v bytes r rest z2 (λ g w y. h v bytes r rest z2 g w y)
+          makes_seen p t task next idle_ built m A st f v bytes r rest z2 (λ g w y. h v bytes r rest z2 g w y)
 
   module _ (m : Machine) (st : Stands p m) (v : Indices) (bytes : List ℕ) (r : Recipe) (rest : List ℕ) (z : IsAsking p t f v bytes r rest) (g : machine.Frame) (w : Handles) (y : Makes p t task next idle_ m f v bytes r g w) where
     s : StandsFor p.scenario (keys.User ∷ []) (plain_of p) m
@@ -118,9 +117,9 @@ module _ (p : Parts) (t : ℕ) (task : is_task p.scenario t ≡ true) (next : Is
     frame_then : record f { receipt = Some (record { key = keys.User; receipt = receipt }) } ≡ taking_frame keys.User v f.at f.key receipt
     frame_then = ap (λ (x : Frame). record x { receipt = Some (record { key = keys.User; receipt = receipt }) }) y.both.own
 
-    tasks_then : parts_in p.spaces frames2 ≡ set (plain_of p).tasks (t - 1) (with_frame (part_of (plain_of p) t) (Some (taking_frame keys.User v f.at f.key receipt)))
-    tasks_then = ap (parts_in p.spaces) put ∙ put_taken p.spaces p.frames t (Some (record f { receipt = Some (record { key = keys.User; receipt = receipt }) })) (in_frames p m t s task)
-        ∙ ap (λ x. set (parts_in p.spaces p.frames) (t - 1) (with_frame (get_or (parts_in p.spaces p.frames) (t - 1) idle_part) (Some x))) frame_then
+    tasks_then : parts_in p.spaces frames2 ≡ set_task (plain_of p).tasks t (with_frame (part_of (plain_of p) t) (Some (taking_frame keys.User v f.at f.key receipt)))
+    tasks_then = ap (parts_in p.spaces) put ∙ put_taken p.spaces p.frames t (Some (record f { receipt = Some (record { key = keys.User; receipt = receipt }) })) range.0 (in_frames p m t s task)
+        ∙ ap (λ x. set_task (parts_in p.spaces p.frames) t (with_frame (at_task (parts_in p.spaces p.frames) t idle_part) (Some x))) frame_then
 
     -- the parts after, by their history and their numbers
     module _ (h2 : rows.Entries) (m2 : Keyed (List ℕ)) (n : Machine)
@@ -135,7 +134,7 @@ module _ (p : Parts) (t : ℕ) (task : is_task p.scenario t ≡ true) (next : Is
       abbrev pub after : Parts
       after = record p { frames = frames2; user_entries = e2; user = k2; history = h2; made = m2 }
 
-      tasks_are : n.tasks ≡ set (on_claims (race_claim Place) m).tasks (t - 1) (framed (tasked (on_claims (race_claim Place) m) t) (Some (record G { receipt = Some Place })))
+      tasks_are : n.tasks ≡ set_task (on_claims (race_claim Place) m).tasks t (framed (tasked (on_claims (race_claim Place) m) t) (Some (record G { receipt = Some Place })))
       tasks_are = tasks ∙ tasks_given m m t G Place refl refl
 
       pub after_stands : StandsFor p.scenario (keys.User ∷ []) (plain_of after) n
@@ -292,7 +291,7 @@ module _ (p : Parts) (t : ℕ) (task : is_task p.scenario t ≡ true) (next : Is
 
 -- The same of what the calls leave.
 
-module _ (p : Parts) (t : ℕ) (task : is_task p.scenario t ≡ true) (next : IsNext p t (Some kinds.Make)) (idle_ : value_kind (frame_of p.frames t) ≡ None) (reached : Reached p) (q new : Parts) (receipt : Receipt) where
+module _ (p : Parts) (t : ℕ) (task : is_task p.scenario t ≡ true) (next : IsNext p t (Some kinds.Make)) (idle_ : value_kind (frame_of p.frames t) ≡ None) (built : IsUserOnly p.scenario) (reached : Reached p) (q new : Parts) (receipt : Receipt) where
   abbrev Gives : Parts → Type 0
   Gives x = IfSome (frame_of x.frames t) (λ f. new ≡ record x { frames = with_frame_of (with_frame_of x.frames t None) t (Some (record f { receipt = Some (record { key = keys.User; receipt = receipt }) })) })
 
@@ -300,7 +299,7 @@ module _ (p : Parts) (t : ℕ) (task : is_task p.scenario t ≡ true) (next : Is
   again_given a g = asking p t task next idle_ _ reached (λ f v bytes r rest z.
       let b : Answers t (Ok (made.Receipt receipt false)) p (record p { user_entries = q.user_entries; user = q.user }) = subst (Answers t (Ok (made.Receipt receipt false)) p) a.others a in
       let d : Gives (record p { user_entries = q.user_entries; user = q.user }) = subst Gives a.others g in
-      subst (MayFollow kinds.Make t p) (sym (at f z.own d)) (again_follows p t task next idle_ reached f z.own q.user_entries q.user receipt _ refl b))
+      subst (MayFollow kinds.Make t p) (sym (at f z.own d)) (again_follows p t task next idle_ built reached f z.own q.user_entries q.user receipt _ refl b))
     where
       at : (f : Frame) → frame_of p.frames t ≡ Some f → Gives (record p { user_entries = q.user_entries; user = q.user })
           → new ≡ record p { frames = with_frame_of (with_frame_of p.frames t None) t (Some (record f { receipt = Some (record { key = keys.User; receipt = receipt }) })); user_entries = q.user_entries; user = q.user }
@@ -319,7 +318,7 @@ module _ (p : Parts) (t : ℕ) (task : is_task p.scenario t ≡ true) (next : Is
         let b : Answers t (Ok (made.Receipt receipt true)) p (record p { user_entries = q.user_entries; user = q.user }) = subst (Answers t (Ok (made.Receipt receipt true)) p) a.others a in
         let is_noted : n ≡ noted = subst Notes a.others o in
         let d : Gives noted = subst Gives is_noted g in
-        subst (MayFollow kinds.Make t p) (sym (at f z.own d)) (fresh_follows p t task next idle_ reached f z.own q.user_entries q.user receipt _ refl entry n.history has_room is_entry b
+        subst (MayFollow kinds.Make t p) (sym (at f z.own d)) (fresh_follows p t task next idle_ built reached f z.own q.user_entries q.user receipt _ refl entry n.history has_room is_entry b
         (pushed ∙ ap (λ (x : Parts). x.history.entries ++ entry ∷ []) a.others) (less ∙ ap (λ (x : Parts). x.history.spare) a.others)))
       where
         at : (f : Frame) → frame_of p.frames t ≡ Some f → Gives noted → new ≡ record noted { frames = with_frame_of (with_frame_of p.frames t None) t (Some (record f { receipt = Some (record { key = keys.User; receipt = receipt }) })) }

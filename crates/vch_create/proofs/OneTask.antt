@@ -1,9 +1,9 @@
 -- One task is replaced, with its names and its frame, the voucher table may change, and an entry may be noted: what the
 -- parts stand for then.
-use Rattle.std.proofs.Common.{◌≡◌, ◌≢◌, ℕ, ◌+◌, ◌-◌, ◌<◌, ◌≤◌, ◌==◌, cond, reverse, List, [], ◌∷◌, ◌++◌, refl, arith, sym, ap, ◌∙◌, length, get_or, subst, Option, Some, None, inl, inr}
-use Rattle.std.proofs.Math.ListN.{set}
+use Rattle.std.proofs.Common.{◌≡◌, ◌≢◌, ℕ, ◌+◌, ◌-◌, ◌<◌, ◌≤◌, ◌==◌, cond, reverse, List, [], ◌∷◌, ◌++◌, refl, arith, sym, ap, ◌∙◌, length, subst, Option, Some, None, inl, inr}
+use Rattle.vch_base.specs.Tasks.{set_task, at_task}
+use Rattle.vch_base.proofs.CallerLemmas.{as_long, own_item, other_items}
 use Rattle.std.proofs.lemmas.Bool.{cases_eq}
-use Rattle.std.proofs.lemmas.List.{get_or-set_same, get_or-set_other, length-set}
 use Rattle.std.proofs.lemmas.List.Sums.{sum_by-append}
 use Rattle.std.proofs.lemmas.Grind.{common_steps}
 use Rattle.std.specs.List.{flat_map}
@@ -12,21 +12,20 @@ use Rattle.vch_base.specs.Managers.{count}
 use Rattle.vch_table.specs.declared.table.Cell.{Cell}
 use Rattle.vch_table.specs.Vouchers.{live_slots}
 use Rattle.vch_value.specs.Picture.{Alike, flags_at, claims_at}
-use Rattle.vch_value.proofs.Rows.{stands_alike}
+use Rattle.vch_value.proofs.CallerLemmas.{stands_alike}
 use Rattle.vch_model.specs.declared.entry.Entry.{Entry}
 use Rattle.vch_model.specs.declared.lists.Scenario.{Scenario}
-use Rattle.vch_machine.specs.State.{of_key, Machine, Tasked, tasked, idle}
+use Rattle.vch_base.specs.Keyed.{of_key}
+use Rattle.vch_machine.specs.State.{Machine, Tasked, tasked, idle}
 use Rattle.vch_machine.specs.Next.{current, nth_call}
 use Rattle.vch_legal.specs.Facts.{Fits}
-use Rattle.vch_legal.proofs.TaskLists.{before, behind, all_split, all_set}
+use Rattle.vch_legal.proofs.CallerLemmas.{IsAmong, before, behind, all_split, all_set}
 use Rattle.vch_state.specs.Plain.{Plain, Part, part_of, idle_part}
 use Rattle.vch_state.specs.Shape.{Shape, IsTask, IsTable}
 use Rattle.vch_state.specs.Pictures.{Both, both, picture_of, task_holds, part_expects, both_claimed, cell_holds, frame_holds, receipts_of, frame_claimed}
 use Rattle.vch_state.specs.Bounds.{in_all, begun_in, open_in, open_of, unanswered_in}
 use Rattle.vch_state.specs.Stands.{StandsFor, KeyStands, all_live, owed}
-use Rattle.vch_state.proofs.Boths.{both_set, both_get, both_length}
-use Rattle.vch_state.proofs.Spending.{Paid, paid_then}
-use Rattle.vch_state.proofs.Sums.{sum_with}
+use Rattle.vch_state.proofs.CallerLemmas.{both_put, both_at, both_length, Paid, paid_then, sum_with}
 
 -- an entry that may be noted: in the history of the core, in that of the machine, and in the room
 abbrev pub told : Option Entry → List Entry → List Entry
@@ -52,14 +51,11 @@ module _ (h : ℕ) where
   three : (a b d : List ℕ) → count h (a ++ (b ++ d)) ≡ count h a + (count h b + count h d)
   three a b d = count_append a (b ++ d) ∙ ap (λ n. count h a + n) (count_append b d)
 
-  pub pieces : {X : Type 0} (f : X → List ℕ) (xs : List X) (i : ℕ) (d y : X) → i < length xs → count h (flat_map f (set xs i y)) + count h (f (get_or xs i d)) ≡ count h (flat_map f xs) + count h (f y)
-  pieces f xs i d y l =
-      let a : count h (flat_map f (set xs i y)) ≡ count h (before f xs i) + (count h (f y) + count h (behind f xs i)) = ap (count h) (all_set f xs i y l) ∙ three (before f xs i) (f y) (behind f xs i) in
-      let b : count h (flat_map f xs) ≡ count h (before f xs i) + (count h (f (get_or xs i d)) + count h (behind f xs i)) = ap (count h) (all_split f xs i d l) ∙ three (before f xs i) (f (get_or xs i d)) (behind f xs i) in
+  pub pieces : {X : Type 0} (f : X → List ℕ) (xs : List X) (t : ℕ) (d y : X) → IsAmong t xs → count h (flat_map f (set_task xs t y)) + count h (f (at_task xs t d)) ≡ count h (flat_map f xs) + count h (f y)
+  pieces f xs t d y l =
+      let a : count h (flat_map f (set_task xs t y)) ≡ count h (before f xs t) + (count h (f y) + count h (behind f xs t)) = ap (count h) (all_set f xs t y l) ∙ three (before f xs t) (f y) (behind f xs t) in
+      let b : count h (flat_map f xs) ≡ count h (before f xs t) + (count h (f (at_task xs t d)) + count h (behind f xs t)) = ap (count h) (all_split f xs t d l) ∙ three (before f xs t) (f (at_task xs t d)) (behind f xs t) in
       omega (arith, a, b)
-
-same_task : (t u : ℕ) → 0 < t → 0 < u → u - 1 ≡ t - 1 → u ≡ t
-same_task t u a b e = omega arith
 
 one_behind : (e : Entry) (past : List Entry) → reverse (e ∷ past) ≡ reverse past ++ e ∷ []
 one_behind e past = grind (arith, common_steps)
@@ -72,38 +68,46 @@ told_noted (Some e) xs past q = ap (λ z. z ++ e ∷ []) q ∙ sym (one_behind e
 module _ (sc : Scenario) (k : Key) (c : Plain) (m : Machine) (t : ℕ) (positive : 0 < t) (inside : t - 1 < length c.tasks) (s : StandsFor sc (k ∷ []) c m)
     (x : Part) (y : Tasked) (table : List (Option Cell)) (e : Option Entry) where
   abbrev pub then_parts : Plain
-  then_parts = record c { tasks = set c.tasks (t - 1) x; table = table; history = told e c.history; spare = c.spare - size e }
+  then_parts = record c { tasks = set_task c.tasks t x; table = table; history = told e c.history; spare = c.spare - size e }
 
   abbrev pub then_machine : Machine
-  then_machine = record m { tasks = set m.tasks (t - 1) y; past = noted e m.past }
+  then_machine = record m { tasks = set_task m.tasks t y; past = noted e m.past }
 
   inside_tasks : t - 1 < length m.tasks
   inside_tasks = omega (arith, s.shape.long, inside)
+
+  among_parts : IsAmong t c.tasks
+  among_parts = (positive, omega (arith, inside))
+
+  among_tasks : IsAmong t m.tasks
+  among_tasks = (positive, omega (arith, inside_tasks))
 
   -- names, frames and the table
 
   abbrev Fit : ℕ → Part → Tasked → Type 0
   Fit u a b = IsTask then_parts (nth_call sc u b.begun) a b
 
-  module _ (others : (u : ℕ) → u - 1 ≢ t - 1 → 0 < u → u - 1 < length c.tasks → IsTask then_parts (current sc m u) (part_of c u) (tasked m u))
+  module _ (others : (u : ℕ) → u ≢ t → 0 < u → u - 1 < length c.tasks → IsTask then_parts (current sc m u) (part_of c u) (tasked m u))
       (own : IsTask then_parts (nth_call sc t y.begun) x y)
-      (fits_table : IsTable table (set c.tasks (t - 1) x)) where
-    every_task : (u : ℕ) → 0 < u → u - 1 < length c.tasks → Fit u (get_or (set c.tasks (t - 1) x) (u - 1) idle_part) (get_or (set m.tasks (t - 1) y) (u - 1) idle)
-    every_task u p i = elim (cases_eq (u - 1) (t - 1)) [
-      | inl q ↦ subst (λ v. Fit v (get_or (set c.tasks (t - 1) x) (v - 1) idle_part) (get_or (set m.tasks (t - 1) y) (v - 1) idle)) (sym (same_task t u positive p q)) here
+      (fits_table : IsTable table (set_task c.tasks t x)) where
+    every_task : (u : ℕ) → 0 < u → u - 1 < length c.tasks → Fit u (at_task (set_task c.tasks t x) u idle_part) (at_task (set_task m.tasks t y) u idle)
+    every_task u p i = elim (cases_eq u t) [
+      | inl q ↦ subst (λ v. Fit v (at_task (set_task c.tasks t x) v idle_part) (at_task (set_task m.tasks t y) v idle)) (sym q) here
       | inr n ↦ there n
     ]
       where
-        here : Fit t (get_or (set c.tasks (t - 1) x) (t - 1) idle_part) (get_or (set m.tasks (t - 1) y) (t - 1) idle)
-        here = rw (get_or-set_same c.tasks (t - 1) x idle_part inside, get_or-set_same m.tasks (t - 1) y idle inside_tasks) own
+        here : Fit t (at_task (set_task c.tasks t x) t idle_part) (at_task (set_task m.tasks t y) t idle)
+        here = subst (λ a. Fit t a (at_task (set_task m.tasks t y) t idle)) (sym (own_item c.tasks t x idle_part positive among_parts.1))
+            (subst (λ b. Fit t x b) (sym (own_item m.tasks t y idle positive among_tasks.1)) own)
 
-        there : u - 1 ≢ t - 1 → Fit u (get_or (set c.tasks (t - 1) x) (u - 1) idle_part) (get_or (set m.tasks (t - 1) y) (u - 1) idle)
-        there n = rw (get_or-set_other c.tasks (t - 1) (u - 1) x idle_part n, get_or-set_other m.tasks (t - 1) (u - 1) y idle n) (others u n p i)
+        there : u ≢ t → Fit u (at_task (set_task c.tasks t x) u idle_part) (at_task (set_task m.tasks t y) u idle)
+        there n = subst (λ a. Fit u a (at_task (set_task m.tasks t y) u idle)) (sym (other_items c.tasks t u x idle_part n))
+            (subst (λ b. Fit u (part_of c u) b) (sym (other_items m.tasks t u y idle n)) (others u n p i))
 
     shape_after : Shape sc then_parts then_machine
     shape_after = record {
-      long = length-set c.tasks (t - 1) x ∙ s.shape.long ∙ sym (length-set m.tasks (t - 1) y);
-      tasks = λ u p i. every_task u p (subst (λ l. u - 1 < l) (length-set c.tasks (t - 1) x) i);
+      long = as_long c.tasks t x ∙ s.shape.long ∙ sym (as_long m.tasks t y);
+      tasks = λ u p i. every_task u p (subst (λ l. u - 1 < l) (as_long c.tasks t x) i);
       table = fits_table;
     }
 
@@ -113,26 +117,26 @@ module _ (sc : Scenario) (k : Key) (c : Plain) (m : Machine) (t : ℕ) (positive
         (claims : frame_claimed k x.frame y.frame ≡ frame_claimed k (part_of c t).frame (tasked m t).frame)
         (held : (h : ℕ) → count h (frame_holds k y.frame) + count h (flat_map (cell_holds c k) table) ≡ count h (frame_holds k (tasked m t).frame) + count h (flat_map (cell_holds c k) c.table)) where
       same_receipts : (picture_of k then_parts then_machine).receipts ≡ (picture_of k c m).receipts
-      same_receipts = all_set (part_expects k) c.tasks (t - 1) x inside ∙ ap (λ p. before (part_expects k) c.tasks (t - 1) ++ (p ++ behind (part_expects k) c.tasks (t - 1))) receipts
-          ∙ sym (all_split (part_expects k) c.tasks (t - 1) idle_part inside)
+      same_receipts = all_set (part_expects k) c.tasks t x among_parts ∙ ap (λ p. before (part_expects k) c.tasks t ++ (p ++ behind (part_expects k) c.tasks t)) receipts
+          ∙ sym (all_split (part_expects k) c.tasks t idle_part among_parts)
 
-      inside_both : t - 1 < length (both c.tasks m.tasks)
-      inside_both = let l : length (both c.tasks m.tasks) ≡ length c.tasks = both_length c.tasks m.tasks s.shape.long in omega (arith, l, inside)
+      among_both : IsAmong t (both c.tasks m.tasks)
+      among_both = let l : length (both c.tasks m.tasks) ≡ length c.tasks = both_length c.tasks m.tasks s.shape.long in (positive, omega (arith, l, inside))
 
       abbrev pair : Both
       pair = record { part = x; task = y }
 
       same_claims : (picture_of k then_parts then_machine).claims ≡ (picture_of k c m).claims
       same_claims =
-          ap (flat_map (both_claimed k)) (both_set c.tasks m.tasks (t - 1) x y)
-          ∙ all_set (both_claimed k) (both c.tasks m.tasks) (t - 1) pair inside_both
-          ∙ ap (λ p. before (both_claimed k) (both c.tasks m.tasks) (t - 1) ++ (p ++ behind (both_claimed k) (both c.tasks m.tasks) (t - 1))) (claims ∙ sym (ap (both_claimed k) (both_get c.tasks m.tasks (t - 1) s.shape.long)))
-          ∙ sym (all_split (both_claimed k) (both c.tasks m.tasks) (t - 1) nothing_both inside_both)
+          ap (flat_map (both_claimed k)) (both_put c.tasks m.tasks t x y)
+          ∙ all_set (both_claimed k) (both c.tasks m.tasks) t pair among_both
+          ∙ ap (λ p. before (both_claimed k) (both c.tasks m.tasks) t ++ (p ++ behind (both_claimed k) (both c.tasks m.tasks) t)) (claims ∙ sym (ap (both_claimed k) (both_at c.tasks m.tasks t s.shape.long)))
+          ∙ sym (all_split (both_claimed k) (both c.tasks m.tasks) t nothing_both among_both)
 
       same_holders : (h : ℕ) → count h (picture_of k then_parts then_machine).holders ≡ count h (picture_of k c m).holders
       same_holders h =
-          let a : count h (flat_map (task_holds k) (set m.tasks (t - 1) y)) + count h (frame_holds k (tasked m t).frame) ≡ count h (flat_map (task_holds k) m.tasks) + count h (frame_holds k y.frame) = pieces h (task_holds k) m.tasks (t - 1) idle y inside_tasks in
-          let b : count h (picture_of k then_parts then_machine).holders ≡ count h (flat_map (task_holds k) (set m.tasks (t - 1) y)) + count h (flat_map (cell_holds c k) table) = count_append h (flat_map (task_holds k) (set m.tasks (t - 1) y)) (flat_map (cell_holds c k) table) in
+          let a : count h (flat_map (task_holds k) (set_task m.tasks t y)) + count h (frame_holds k (tasked m t).frame) ≡ count h (flat_map (task_holds k) m.tasks) + count h (frame_holds k y.frame) = pieces h (task_holds k) m.tasks t idle y among_tasks in
+          let b : count h (picture_of k then_parts then_machine).holders ≡ count h (flat_map (task_holds k) (set_task m.tasks t y)) + count h (flat_map (cell_holds c k) table) = count_append h (flat_map (task_holds k) (set_task m.tasks t y)) (flat_map (cell_holds c k) table) in
           let d : count h (picture_of k c m).holders ≡ count h (flat_map (task_holds k) m.tasks) + count h (flat_map (cell_holds c k) c.table) = count_append h (flat_map (task_holds k) m.tasks) (flat_map (cell_holds c k) c.table) in
           let f : count h (frame_holds k y.frame) + count h (flat_map (cell_holds c k) table) ≡ count h (frame_holds k (tasked m t).frame) + count h (flat_map (cell_holds c k) c.table) = held h in
           omega (arith, a, b, d, f)

@@ -1,9 +1,9 @@
 -- A create gets its name: what the parts stand for then.
-use Rattle.std.proofs.Common.{◌≡◌, ◌≢◌, ℕ, ◌+◌, ◌-◌, ◌<◌, ◌≤◌, ◌==◌, Bool, true, false, cond, List, [], ◌∷◌, refl, arith, sym, ap, ◌∙◌, length, get_or, append-nil, subst, Option, Some, None, inl, inr}
-use Rattle.std.proofs.Math.ListN.{set}
+use Rattle.std.proofs.Common.{◌≡◌, ◌≢◌, ℕ, ◌+◌, ◌-◌, ◌<◌, ◌≤◌, ◌==◌, Bool, true, false, cond, List, [], ◌∷◌, refl, arith, sym, ap, ◌∙◌, length, append-nil, subst, Option, Some, None, inl, inr}
+use Rattle.vch_base.specs.Tasks.{set_task, at_task}
+use Rattle.vch_base.proofs.CallerLemmas.{set_twice, own_item}
 use Rattle.std.proofs.lemmas.Bool.{cases_eq}
 use Rattle.std.proofs.lemmas.Grind.{common_steps}
-use Rattle.std.proofs.lemmas.List.{get_or-set_same, set-set}
 use Rattle.std.specs.List.{flat_map}
 use Rattle.vch_base.specs.declared.key.Key.{Key}
 use Rattle.vch_base.specs.Managers.{count}
@@ -21,23 +21,22 @@ use Rattle.vch_model.specs.declared.lists.Scenario.{Scenario}
 use Rattle.vch_model.specs.Lines.{lines_of}
 use Rattle.vch_model.specs.Words.{word_of}
 use Rattle.vch_machine.specs.State as machine
-use Rattle.vch_machine.specs.State.{of_key, Handles, Place, Machine, Tasked, tasked, with_tasked, idle, is_empty}
+use Rattle.vch_base.specs.Keyed.{of_key}
+use Rattle.vch_machine.specs.State.{Handles, Place, Machine, Tasked, tasked, with_tasked, idle, is_empty}
 use Rattle.vch_machine.specs.Frames as frames
 use Rattle.vch_machine.specs.Naming.{places, doubled, is_known, name_of, name_for, with_name}
 use Rattle.vch_machine.specs.Next.{current, nth_call}
 use Rattle.vch_machine.specs.Placing.{place_create}
 use Rattle.vch_legal.specs.Facts.{Fits}
-use Rattle.vch_legal.proofs.OwnTask.{doubled_few}
+use Rattle.vch_legal.proofs.CallerLemmas.{doubled_few}
 use Rattle.vch_state.specs.declared.frame.Frame.{Frame}
 use Rattle.vch_state.specs.declared.frame.Claiming.{Claiming}
 use Rattle.vch_state.specs.Plain.{Plain, Part, part_of, closed}
-use Rattle.vch_state.specs.Shape.{Indices, Pairwise, Optional, IsMap, IsLet, IsSlotOf, IsName, IsMessage, IsFrame, IsTask, IsTable, slots_of, named_by, queued_by, referred_by}
+use Rattle.vch_state.specs.Shape.{keys_left, Indices, Pairwise, Optional, IsMap, IsLet, IsSlotOf, IsName, IsMessage, IsFrame, IsTask, IsTable, slots_of, named_by, queued_by, referred_by}
 use Rattle.vch_state.specs.Pictures.{cell_holds, frame_holds, receipts_of, frame_claimed, listed, let_holds}
 use Rattle.vch_state.specs.Bounds.{rank, makes, open_of, flying_of, work_left, rank_in, unanswered_in}
 use Rattle.vch_state.specs.Stands.{StandsFor}
-use Rattle.vch_state.proofs.Closing.{closed_frames, holds_closed, receipts_closed, claimed_closed, rank_closed, makes_closed, open_closed, flying_closed}
-use Rattle.vch_state.proofs.FrameParts.{frames_of}
-use Rattle.vch_state.proofs.Spending.{Paid}
+use Rattle.vch_state.proofs.CallerLemmas.{Formless, closed_frames, holds_closed, receipts_closed, claimed_closed, rank_closed, makes_closed, open_closed, flying_closed, frames_of, Paid}
 use Rattle.vch_create.specs.Formed.{items}
 use Rattle.vch_create.specs.Gives.{Gives}
 use Rattle.vch_create.specs.declared.place.Given.{Given}
@@ -81,7 +80,7 @@ module _ (sc : Scenario) (k : Key) (c : Plain) (m : Machine) (t : ℕ) (positive
   F = record { forming = None; at = at; key = 0; receipt = None; lets = cond given.was_there (items u) []; claim = Claiming.Nothing }
 
   abbrev pub G : machine.Frame
-  G = record { forming = None; at_byte = place; keys = []; receipt = None; lets = doubled m v; claim = None }
+  G = record { answered = true; forming = None; at_byte = place; keys = []; receipt = None; lets = doubled m v; claim = None }
 
   abbrev pub x : Part
   x = record { names = after.names; next = after.next; queue = (part_of c t).queue; begun = (part_of c t).begun; frame = closed F }
@@ -105,16 +104,19 @@ module _ (sc : Scenario) (k : Key) (c : Plain) (m : Machine) (t : ℕ) (positive
   inside_tasks : t - 1 < length m.tasks
   inside_tasks = omega (arith, s.shape.long, inside)
 
-  mid_tasks : mid.tasks ≡ set m.tasks (t - 1) y
-  mid_tasks = ap (λ (a : Tasked). set (set m.tasks (t - 1) (with_name (tasked m t) v found)) (t - 1) (record a { frame = frames.closed G })) (get_or-set_same m.tasks (t - 1) (with_name (tasked m t) v found) idle inside_tasks)
-      ∙ set-set m.tasks (t - 1) (with_name (tasked m t) v found) y
+  among_tasks : t ≤ length m.tasks
+  among_tasks = omega (arith, inside_tasks)
+
+  mid_tasks : mid.tasks ≡ set_task m.tasks t y
+  mid_tasks = ap (λ (a : Tasked). set_task (set_task m.tasks t (with_name (tasked m t) v found)) t (record a { frame = frames.closed G })) (own_item m.tasks t (with_name (tasked m t) v found) idle positive among_tasks)
+      ∙ set_twice m.tasks t (with_name (tasked m t) v found) y
 
   -- the machine does so
   pub is_place : place_create m t (forming_machine v place keys) v (calls.Create bytes) ≡ new_machine
   is_place = ap (λ ts. record m { tasks = ts; past = entry ∷ m.past }) mid_tasks
 
   pub numbered : (tasked mid t).begun ≡ (tasked m t).begun
-  numbered = ap (λ ts. (get_or ts (t - 1) idle).begun) mid_tasks ∙ ap (λ (a : Tasked). a.begun) (get_or-set_same m.tasks (t - 1) y idle inside_tasks) ∙ kept_begun found
+  numbered = ap (λ ts. (at_task ts t idle).begun) mid_tasks ∙ ap (λ (a : Tasked). a.begun) (own_item m.tasks t y idle positive among_tasks) ∙ kept_begun found
     where
       kept_begun : (o : Option ℕ) → (with_name (tasked m t) v o).begun ≡ (tasked m t).begun
       kept_begun None = refl
@@ -158,6 +160,9 @@ module _ (sc : Scenario) (k : Key) (c : Plain) (m : Machine) (t : ℕ) (positive
   old_frame : IsFrame c (current sc m t) (forming_frame u at key) (forming_machine v place keys)
   old_frame = frames_of c (current sc m t) (part_of c t).frame (tasked m t).frame _ _ own task z.frame
 
+  no_keys : [] ≡ keys
+  no_keys = subst (λ o. keys_left o (Some u) key ≡ keys) create old_frame.keys_
+
   let_both : Pairwise (IsLet new_parts) (cond given.was_there (items u) []) (doubled m v)
   let_both = subst (λ b. Pairwise (IsLet new_parts) (cond given.was_there (items u) []) (cond b (places v) [])) (sym known_was) (by given.was_there)
     where
@@ -165,8 +170,12 @@ module _ (sc : Scenario) (k : Key) (c : Plain) (m : Machine) (t : ℕ) (positive
       by true = items_lets new_parts u v map
       by false = tt
 
+  formless_now : Formless G
+  formless_now answered = refl
+
   new_frame : IsFrame new_parts (current sc m t) F G
   new_frame = record {
+    answered = refl;
     forming = tt;
     at_byte = old_frame.at_byte;
     keys_ = rw create refl;
@@ -190,12 +199,12 @@ module _ (sc : Scenario) (k : Key) (c : Plain) (m : Machine) (t : ℕ) (positive
         frame = subst (λ n. Optional (IsFrame new_parts (nth_call sc t n)) (closed F) (frames.closed G)) (sym named.kept_begun) (closed_frames new_parts (current sc m t) F G new_frame);
       }
 
-  fits_table : IsTable new (set c.tasks (t - 1) x)
+  fits_table : IsTable new (set_task c.tasks t x)
   fits_table = record { refs = refs; vouchers = vouchers }
     where
-      refs : (r : ℕ) → references_of (slot_at new r) ≡ referred_by r (set c.tasks (t - 1) x)
+      refs : (r : ℕ) → references_of (slot_at new r) ≡ referred_by r (set_task c.tasks t x)
       refs r =
-          let a : referred_by r (set c.tasks (t - 1) x) + (named_by r (part_of c t).names + queued_by r (part_of c t).queue) ≡ referred_by r c.tasks + (named_by r after.names + queued_by r (part_of c t).queue) = referred_with r c.tasks (t - 1) x inside in
+          let a : referred_by r (set_task c.tasks t x) + (named_by r (part_of c t).names + queued_by r (part_of c t).queue) ≡ referred_by r c.tasks + (named_by r after.names + queued_by r (part_of c t).queue) = referred_with r c.tasks t x positive inside in
           let b : named_by r after.names ≡ named_by r (part_of c t).names + cond (slot == r) more 0 = named.refs r ∙ ap (λ ns. named_by r ns + cond (slot == r) (is_new (by_slot old.names slot)) 0) (sym old_names) ∙ ap (λ n. named_by r (part_of c t).names + cond (slot == r) n 0) (sym named.was) in
           let d : references_of (slot_at new r) ≡ references_of (slot_at c.table r) + cond (slot == r) more 0 = at_slot r in
           let e : references_of (slot_at c.table r) ≡ referred_by r c.tasks = s.shape.table.refs r in
@@ -227,7 +236,7 @@ module _ (sc : Scenario) (k : Key) (c : Plain) (m : Machine) (t : ℕ) (positive
 
   held : (h : ℕ) → count h (frame_holds k y.frame) + count h (flat_map (cell_holds c k) new) ≡ count h (frame_holds k (tasked m t).frame) + count h (flat_map (cell_holds c k) c.table)
   held h =
-      let a : count h (frame_holds k y.frame) ≡ count h (flat_map (let_holds k) (cond given.was_there (places v) [])) = ap (count h) (holds_closed k G) ∙ ap (λ b. count h (flat_map (let_holds k) (cond b (places v) []))) known_was in
+      let a : count h (frame_holds k y.frame) ≡ count h (flat_map (let_holds k) (cond given.was_there (places v) [])) = ap (count h) (holds_closed k G formless_now) ∙ ap (λ b. count h (flat_map (let_holds k) (cond b (places v) []))) known_was in
       let b : count h (frame_holds k (tasked m t).frame) ≡ count h (listed (of_key k v)) = ap (λ f. count h (frame_holds k f)) task ∙ ap (count h) (append-nil (listed (of_key k v))) in
       let d : count h (flat_map (cell_holds c k) new) + count h (cell_holds c k (slot_at c.table slot)) ≡ count h (flat_map (cell_holds c k) c.table) + count h (listed (of_key k v)) = put_holds c u v map new slot more put same k h in
       let e : count h (flat_map (let_holds k) (cond given.was_there (places v) [])) ≡ count h (cell_holds c k (slot_at c.table slot)) = by (slot_at c.table slot) refl g.meets_ in
@@ -240,7 +249,7 @@ module _ (sc : Scenario) (k : Key) (c : Plain) (m : Machine) (t : ℕ) (positive
   -- The bounds.
 
   opens : open_of y.frame ≡ 0
-  opens = open_closed G
+  opens = open_closed G formless_now
 
   opened : open_of (tasked m t).frame ≡ 1
   opened = ap open_of task
@@ -250,13 +259,13 @@ module _ (sc : Scenario) (k : Key) (c : Plain) (m : Machine) (t : ℕ) (positive
 
   done_after : rank (nth_call sc t y.begun) y.frame ≤ rank_in sc t (tasked m t)
   done_after =
-      let a : rank (nth_call sc t y.begun) y.frame ≡ length (doubled m v) + 0 = rank_closed (nth_call sc t y.begun) G in
+      let a : rank (nth_call sc t y.begun) y.frame ≡ length (doubled m v) + 0 = rank_closed (nth_call sc t y.begun) G formless_now in
       let b : rank_in sc t (tasked m t) ≡ 0 + work_left (current sc m t) (forming_machine v place keys) (Some v) = ap (rank (current sc m t)) task in
       let d : work_left (current sc m t) (forming_machine v place keys) (Some v) ≡ work_left (Some (calls.Create bytes)) (forming_machine v place keys) (Some v) = ap (λ o. work_left o (forming_machine v place keys) (Some v)) create in
-      omega (arith, a, b, d, doubled_few m v, work_there bytes (forming_machine v place keys) v)
+      omega (arith, a, b, d, doubled_few m v, work_there bytes (forming_machine v place keys) v no_keys)
 
   makes_after : makes (nth_call sc t y.begun) y.frame ≡ 0
-  makes_after = makes_closed (nth_call sc t y.begun) G
+  makes_after = makes_closed (nth_call sc t y.begun) G formless_now
 
   flying_after : flying_of y.frame ≡ 0
   flying_after = flying_closed G

@@ -1,5 +1,6 @@
 -- A frame with nothing in hand and nothing to let go of, whose call is not answered.
-use Rattle.std.proofs.Common.{◌≡◌, ℕ, List, [], ◌∷◌, refl, subst, Option, Some, None}
+use Rattle.std.proofs.Common.{false, not, ap, ◌∙◌, ◌≡◌, ℕ, List, [], ◌∷◌, refl, subst, Option, Some, None}
+use Rattle.std.specs.Prelude.{is_some}
 use Rattle.vch_base.specs.declared.key.Key.{Key}
 use Rattle.vch_model.specs.declared.call.Call.{Call}
 use Rattle.vch_model.specs.declared.call.Call.TheVariants as calls
@@ -19,7 +20,7 @@ abbrev pub forming_frame : Indices → ℕ → ℕ → Frame
 forming_frame v at key = record { forming = Some v; at = at; key = key; receipt = None; lets = []; claim = Claiming.Nothing }
 
 abbrev pub forming_machine : Handles → ℕ → List Key → machine.Frame
-forming_machine w at keys = record { forming = Some w; at_byte = at; keys = keys; receipt = None; lets = []; claim = None }
+forming_machine w at keys = record { answered = false; forming = Some w; at_byte = at; keys = keys; receipt = None; lets = []; claim = None }
 
 -- without an event of a value
 pub quiet : (f : Frame) → value_kind (Some f) ≡ None → (f.receipt ≡ None) × (f.claim ≡ Claiming.Nothing) × (f.lets ≡ [])
@@ -79,13 +80,13 @@ forming_of c call f g v A r idle forms h = by_map g.forming refl (subst (λ o. O
     parts_is : (x : Frame) (v : Indices) → x.forming ≡ Some v → x.receipt ≡ None → x.lets ≡ [] → x.claim ≡ Claiming.Nothing → x ≡ forming_frame v x.at x.key
     parts_is x v a b d e = rw (← a, ← b, ← d, ← e) refl
 
-    machine_is : (x : machine.Frame) (w : Handles) → x.forming ≡ Some w → x.receipt ≡ None → x.lets ≡ [] → x.claim ≡ None → x ≡ forming_machine w x.at_byte x.keys
-    machine_is x w a b d e = rw (← a, ← b, ← d, ← e) refl
+    machine_is : (x : machine.Frame) (w : Handles) → x.answered ≡ false → x.forming ≡ Some w → x.receipt ≡ None → x.lets ≡ [] → x.claim ≡ None → x ≡ forming_machine w x.at_byte x.keys
+    machine_is x w n a b d e = rw (← n, ← a, ← b, ← d, ← e) refl
 
     by_call : (w : Handles) → g.forming ≡ Some w → IsMap c v w → (o : Option Call) → call ≡ o → FormsUser o f.at (Some v) → A
     by_call w e m (Some (calls.Create bytes)) z u = h w bytes (record {
       own = parts_is f v forms q.0 q.2 q.1;
-      twin = machine_is g w e twin.0 twin.2 twin.1;
+      twin = machine_is g w (r.answered ∙ ap (λ o. not (is_some o)) forms) e twin.0 twin.2 twin.1;
       map = m;
       create = z;
     })
@@ -100,6 +101,7 @@ forming_of c call f g v A r idle forms h = by_map g.forming refl (subst (λ o. O
     by_call w e m (Some calls.Ledger) z u = absurd u
     by_call w e m (Some calls.Assertions) z u = absurd u
     by_call w e m (Some calls.Live) z u = absurd u
+    by_call w e m (Some calls.Exit) z u = absurd u
 
     by_map : (o : Option Handles) → g.forming ≡ o → Optional (IsMap c) (Some v) o → A
     by_map None e p = absurd p

@@ -1,6 +1,6 @@
 -- A frame gets a receipt, of a value that was live or of a fresh one: what the parts stand for then.
 use Rattle.std.proofs.Common.{◌≡◌, ℕ, ◌+◌, ◌-◌, ◌<◌, ◌≤◌, ◌==◌, Bool, true, false, cond, List, [], ◌∷◌, ◌++◌, refl, arith, sym, ap, ◌∙◌, length, map, reverse, subst, Some}
-use Rattle.std.proofs.Math.ListN.{set}
+use Rattle.vch_base.specs.Tasks.{set_task}
 use Rattle.std.specs.List.{count_by}
 use Rattle.vch_base.specs.declared.key.Key.{Key}
 use Rattle.vch_base.specs.declared.key.Key.TheVariants as keys
@@ -10,17 +10,18 @@ use Rattle.vch_entry.specs.Entries.{Entries, handle_at}
 use Rattle.vch_value.specs.Flight.{Receipt}
 use Rattle.vch_value.specs.Picture as picture
 use Rattle.vch_value.specs.Picture.{Picture, Alike, AllAre, claims_at, flags_at, race, made_picture, default_of}
-use Rattle.vch_value.proofs.Rows.{stands_alike}
+use Rattle.vch_value.proofs.CallerLemmas.{stands_alike}
 use Rattle.vch_model.specs.Lines.{phases_in}
 use Rattle.vch_model.specs.declared.call.Call.TheVariants as calls
 use Rattle.vch_model.specs.declared.entry.Entry.{Entry}
 use Rattle.vch_model.specs.declared.lists.Scenario.{Scenario}
 use Rattle.vch_machine.specs.State as machine
-use Rattle.vch_machine.specs.State.{Keyed, of_key, with_key, Handles, Machine, Tasked, tasked, living_at}
+use Rattle.vch_base.specs.Keyed.{Keyed, of_key, with_key}
+use Rattle.vch_machine.specs.State.{Handles, Machine, Tasked, tasked, living_at}
 use Rattle.vch_machine.specs.Making.{race_claim, on_claims}
 use Rattle.vch_machine.specs.Next.{current, nth_call}
 use Rattle.vch_legal.specs.Facts.{Fits}
-use Rattle.vch_legal.proofs.SeenTasks.{claims_task}
+use Rattle.vch_legal.proofs.CallerLemmas.{claims_task}
 use Rattle.vch_state.specs.declared.frame.Frame.{Frame}
 use Rattle.vch_state.specs.Plain.{Plain, KeyParts, part_of, with_frame, number_at}
 use Rattle.vch_state.specs.Shape.{Indices, Shape, IsIndexOf, IsFrame, IsTask, slots_of}
@@ -28,13 +29,7 @@ use Rattle.vch_state.specs.UserOnly.{TakesUser}
 use Rattle.vch_state.specs.Pictures.{picture_of}
 use Rattle.vch_state.specs.Bounds.{open_of, in_all, unanswered_in}
 use Rattle.vch_state.specs.Stands.{StandsFor, KeyStands, IsLiving}
-use Rattle.vch_state.proofs.Stable.{task_stays, frame_stays}
-use Rattle.vch_state.proofs.OnClaims.{race_keeps, race_shows, shape_on, picture_on, spent_on, begun_on, opens_on, unanswered_on}
-use Rattle.vch_state.proofs.Replaced.{picture_by, receipts_before, receipts_behind, picture_now, picture_then, shape_then, framed}
-use Rattle.vch_state.proofs.Spending.{Paid, paid_then, unanswered_then, begun_then, open_then}
-use Rattle.vch_state.proofs.Keys.{of_with, same_key_refl, cells_same}
-use Rattle.vch_state.proofs.FrameParts.{frames_of}
-use Rattle.vch_state.proofs.Refers.{taking_frame, taking_machine}
+use Rattle.vch_state.proofs.CallerLemmas.{task_stays, frame_stays, race_keeps, race_shows, shape_on, picture_on, spent_on, begun_on, opens_on, unanswered_on, picture_by, receipts_before, receipts_behind, picture_now, picture_then, shape_then, framed, Paid, paid_then, unanswered_then, begun_then, open_then, of_with, cells_same, same_key_refl, frames_of, taking_frame, taking_machine}
 use Rattle.vch_create.proofs.Quiet.{forming_frame, forming_machine}
 
 -- what holds of the new parts at a key, and of the old ones at all others, holds at each key
@@ -42,12 +37,19 @@ pub each_with : {A : Type 0} (P : Key → A → Type 0) (k : Key) (a : A) (x : K
 each_with P keys.Importance a x here there keys.Importance = here
 each_with P keys.Importance a x here there keys.Bank = there keys.Bank
 each_with P keys.Importance a x here there keys.User = there keys.User
+each_with P keys.Importance a x here there keys.Test = there keys.Test
 each_with P keys.Bank a x here there keys.Importance = there keys.Importance
 each_with P keys.Bank a x here there keys.Bank = here
 each_with P keys.Bank a x here there keys.User = there keys.User
+each_with P keys.Bank a x here there keys.Test = there keys.Test
 each_with P keys.User a x here there keys.Importance = there keys.Importance
 each_with P keys.User a x here there keys.Bank = there keys.Bank
 each_with P keys.User a x here there keys.User = here
+each_with P keys.User a x here there keys.Test = there keys.Test
+each_with P keys.Test a x here there keys.Importance = there keys.Importance
+each_with P keys.Test a x here there keys.Bank = there keys.Bank
+each_with P keys.Test a x here there keys.User = there keys.User
+each_with P keys.Test a x here there keys.Test = here
 
 -- the marks of a handle are all the same, so their order is no matter
 flags_behind : (h : ℕ) (b : Bool) (r : Receipt) (before behind : List Receipt) → AllAre b (flags_at h (r ∷ before ++ behind)) → flags_at h (before ++ r ∷ behind) ≡ flags_at h (r ∷ before ++ behind)
@@ -116,18 +118,18 @@ module _ (sc : Scenario) (k : Key) (c : Plain) (m : Machine) (t : ℕ) (positive
   P = picture_of k c m
 
   mid_is : picture_by k c mid t (Some F) (Some G) ≡ record P { claims = map (race h) P.claims }
-  mid_is = sym (picture_now k c mid t shape_mid.long inside ∙ rw (own, task_mid) refl) ∙ picture_on racing (race_keeps _) k (race h) (race_shows k h) c m
+  mid_is = sym (picture_now k c mid t positive shape_mid.long inside ∙ rw (own, task_mid) refl) ∙ picture_on racing (race_keeps _) k (race h) (race_shows k h) c m
 
   module _ (e2 : Entries) (kept2 : Kept) (numbers2 : List ℕ) (history2 : List Entry) (spare2 : ℕ) (n : Machine)
       (slots : e2.slots ≡ (of_key k c.keyed).entries.slots)
       (counts : picture.Stands (made_picture receipt P) e2 kept2)
-      (tasks : n.tasks ≡ set mid.tasks (t - 1) (framed (tasked mid t) (Some G2)))
+      (tasks : n.tasks ≡ set_task mid.tasks t (framed (tasked mid t) (Some G2)))
       (tally : n.tally ≡ m.tally) where
     abbrev pub now : KeyParts
     now = record { entries = e2; kept = kept2; numbers = numbers2 }
 
     abbrev pub then_parts : Plain
-    then_parts = record c { keyed = with_key k now c.keyed; tasks = set c.tasks (t - 1) (with_frame (part_of c t) (Some F2)); history = history2; spare = spare2 }
+    then_parts = record c { keyed = with_key k now c.keyed; tasks = set_task c.tasks t (with_frame (part_of c t) (Some F2)); history = history2; spare = spare2 }
 
     is_new : of_key k then_parts.keyed ≡ now
     is_new = of_with k now c.keyed
@@ -141,7 +143,7 @@ module _ (sc : Scenario) (k : Key) (c : Plain) (m : Machine) (t : ℕ) (positive
     new_frame : IsFrame then_parts (Some (calls.Create bytes)) F2 G2
     new_frame =
         let z : IsFrame then_parts (Some (calls.Create bytes)) F G = frame_stays c then_parts stable refl (Some (calls.Create bytes)) F G old_frame in
-        record { forming = z.forming; at_byte = z.at_byte; keys_ = z.keys_; receipt = (refl, refl); lets = tt; claim = tt; forms = z.forms; takes = takes }
+        record { forming = z.forming; answered = z.answered; at_byte = z.at_byte; keys_ = z.keys_; receipt = (refl, refl); lets = tt; claim = tt; forms = z.forms; takes = takes }
 
     own_task : IsTask then_parts (current sc mid t) (with_frame (part_of c t) (Some F2)) (framed (tasked mid t) (Some G2))
     own_task =
@@ -156,7 +158,7 @@ module _ (sc : Scenario) (k : Key) (c : Plain) (m : Machine) (t : ℕ) (positive
     Q = picture_by k c mid t (Some F2) (Some G2)
 
     picture_after : picture_of k then_parts n ≡ Q
-    picture_after = picture_then k c mid t shape_mid.long inside then_parts n (Some F2) (Some G2) refl tasks (cells_same c then_parts k (λ i. all_handles i k) c.table)
+    picture_after = picture_then k c mid t positive shape_mid.long inside then_parts n (Some F2) (Some G2) refl tasks (cells_same c then_parts k (λ i. all_handles i k) c.table)
 
     abbrev pub A : List Receipt
     A = receipts_before k c m t

@@ -14,8 +14,7 @@ use Rattle.vch_state.specs.Lookups.{AllSpaced}
 use Rattle.vch_state.specs.Shape.{Pairwise, IsMessage, IsName, bit, is_slot, named_by, queued_by, referred_by}
 use Rattle.vch_state.specs.Bounds.{in_all, begun_in, references_in, sum_tasks, user_references}
 use Rattle.vch_state.specs.Reached.{Reached, plain_of, parts_in}
-use Rattle.vch_state.proofs.Glue.{from_reached, in_parts}
-use Rattle.vch_state.proofs.Spending.{begun_bound}
+use Rattle.vch_state.proofs.CallerLemmas.{from_reached, in_parts, begun_bound}
 use Rattle.vch_create.proofs.Own.{at_most, own_next}
 use Rattle.vch_create.proofs.Vouchers.{Keeps, keeps_of}
 use Rattle.vch_create.proofs.WorkNext.{task_names}
@@ -76,16 +75,13 @@ module _ (p : Parts) (r : Reached p) where
       omega (arith, a, b, d, s.spent.references))
 
   module _ (t : ℕ) (task : is_task p.scenario t ≡ true) where
-    one_back : (t : ℕ) → 0 < t → (t - 1) + 1 ≡ t
-    one_back t l = omega arith
-
     pub next_few : (names_of p.spaces t).next < 4294967295
     next_few = from_reached p _ r (λ m limited s.
         let n : (0 < t) × (t - 1 < length (plain_of p).tasks) = in_parts p.scenario (keys.User ∷ []) (plain_of p) m t s task in
         let a : in_all begun_in m ≤ 1048576 = begun_bound p.scenario m limited s.spent in
         let b : (tasked m t).begun ≤ in_all begun_in m = at_most begun_in m t idle refl n.0 (omega (arith, n.1, s.shape.long)) in
         let d : (names_of p.spaces t).next ≡ (tasked m t).next = sym (own_next p m t s task) ∙ (s.shape.tasks t n.0 n.1).next in
-        let e = (s.spent.tasks (t - 1)).next in
+        let e = (s.spent.tasks t).next in
         omega (arith, a, b, d, e))
 
     pub name_references_few : AllReferencesBelow 4294967295 (names_of p.spaces t).names

@@ -1,9 +1,9 @@
 -- A refused call keeps all that the parts stand for.
-use Rattle.std.proofs.Common.{◌≡◌, ℕ, suc, ◌+◌, ◌-◌, ◌*◌, ◌<◌, ◌≤◌, true, cond, List, [], ◌∷◌, refl, arith, sym, ap, ◌∙◌, length, drop, append-nil, Some, None}
+use Rattle.std.proofs.Common.{subst, get_or, ◌≡◌, ℕ, ◌+◌, ◌-◌, ◌*◌, ◌<◌, ◌≤◌, true, cond, List, [], ◌∷◌, refl, arith, sym, ap, ◌∙◌, length, drop, append-nil, Some, None}
+use Rattle.vch_base.specs.Tasks.{set_task}
+use Rattle.vch_base.proofs.CallerLemmas.{own_item}
 use Rattle.std.specs.Prelude.{ℤ}
-use Rattle.std.proofs.Math.ListN.{set}
 use Rattle.std.specs.List.{flat_map}
-use Rattle.std.proofs.lemmas.List.{get_or-set_same}
 use Rattle.vch_base.specs.declared.key.Key.{Key}
 use Rattle.vch_base.specs.Managers.{count}
 use Rattle.vch_model.specs.declared.call.Call.TheVariants as calls
@@ -14,54 +14,49 @@ use Rattle.vch_model.specs.Lines.{is_task}
 use Rattle.vch_model.specs.Replies.{refused}
 use Rattle.vch_model.specs.Words.{word_of}
 use Rattle.vch_machine.specs.State as machine
-use Rattle.vch_machine.specs.State.{of_key, Handles, Place, Machine, Tasked, tasked, idle, is_empty}
+use Rattle.vch_base.specs.Keyed.{of_key}
+use Rattle.vch_machine.specs.State.{Handles, Place, Machine, Tasked, tasked, idle, is_empty}
 use Rattle.vch_machine.specs.Frames as frames
 use Rattle.vch_machine.specs.Frames.{refuse}
 use Rattle.vch_machine.specs.Naming.{places}
 use Rattle.vch_machine.specs.Next.{current, nth_call}
-use Rattle.vch_legal.proofs.OwnTask.{places_few}
+use Rattle.vch_legal.proofs.CallerLemmas.{places_few, refuse_keeps}
 use Rattle.vch_state.specs.declared.frame.Frame.{Frame}
 use Rattle.vch_state.specs.declared.frame.Claiming.{Claiming}
-use Rattle.vch_state.specs.Plain.{Plain, Part, part_of, with_frame, closed}
-use Rattle.vch_state.specs.Shape.{Indices, IsIndexOf, IsMap, IsFrame, IsTask, IsTable}
+use Rattle.vch_state.specs.Plain.{Plain, Part, part_of, idle_part, with_frame, closed}
+use Rattle.vch_state.specs.Shape.{Indices, IsIndexOf, IsMap, IsFrame, IsTask, IsTable, keys_left, referred_by}
 use Rattle.vch_state.specs.Pictures.{cell_holds, frame_holds, receipts_of, frame_claimed, listed}
 use Rattle.vch_state.specs.Bounds.{rank, open_of, flying_of, work_left, rank_in, makes_in, unanswered_in}
 use Rattle.vch_state.specs.Stands.{StandsFor}
-use Rattle.vch_state.proofs.Closing.{closed_frames, holds_closed, receipts_closed, claimed_closed, rank_closed, makes_closed, open_closed, flying_closed}
-use Rattle.vch_state.proofs.FrameParts.{frames_of}
-use Rattle.vch_state.proofs.Replaced.{referred_set, framed}
-use Rattle.vch_state.proofs.Spending.{Paid}
-use Rattle.vch_state.proofs.Stable.{task_stays}
+use Rattle.vch_state.proofs.CallerLemmas.{Formless, closed_frames, holds_closed, receipts_closed, claimed_closed, rank_closed, makes_closed, open_closed, flying_closed, frames_of, at_place, set_place, referred_set, framed, Paid, task_stays}
 use Rattle.vch_create.specs.Formed.{items}
 use Rattle.vch_create.proofs.Items.{items_lets, places_hold}
 use Rattle.vch_create.proofs.OneTask.{then_parts, then_machine, stands_one}
 use Rattle.vch_create.proofs.Quiet.{forming_frame, forming_machine}
-use Rattle.vch_create.proofs.RefusedFits.{refused_fits}
 
--- a create that forms a voucher has as much work left as a voucher has keys
-pub work_there : (bytes : List ℕ) (g : machine.Frame) (w : Handles) → 3 ≤ work_left (Some (calls.Create bytes)) g (Some w)
-work_there bytes g w = by g.keys
+-- a create that forms a voucher and has no keys in hand has as much work left as a voucher has keys
+pub work_there : (bytes : List ℕ) (g : machine.Frame) (w : Handles) → [] ≡ g.keys → 4 ≤ work_left (Some (calls.Create bytes)) g (Some w)
+work_there bytes g w e = subst (λ ks. 4 ≤ 16 * length (drop g.at_byte bytes) + cond (is_empty ks) 12 (3 * length ks)) e (twelve (length (drop g.at_byte bytes)))
   where
-    three : (n a : ℕ) → 3 ≤ 16 * n + 3 * (suc a)
-    three n a = omega arith
-
-    twelve : (n : ℕ) → 3 ≤ 16 * n + 12
+    twelve : (n : ℕ) → 4 ≤ 16 * n + 12
     twelve n = omega arith
-
-    by : (ks : List Key) → 3 ≤ 16 * length (drop g.at_byte bytes) + cond (is_empty ks) 12 (3 * length ks)
-    by [] = twelve (length (drop g.at_byte bytes))
-    by (k ∷ ks) = three (length (drop g.at_byte bytes)) (length ks)
 
 module _ (sc : Scenario) (k : Key) (c : Plain) (m : Machine) (t : ℕ) (positive : 0 < t) (inside : t - 1 < length c.tasks) (s : StandsFor sc (k ∷ []) c m)
     (v : Indices) (at key : ℕ) (w : Handles) (place : ℕ) (keys : List Key) (bytes : List ℕ) (code : ℤ)
     (own : (part_of c t).frame ≡ Some (forming_frame v at key))
     (task : (tasked m t).frame ≡ Some (forming_machine w place keys))
     (map : IsMap c v w) (create : current sc m t ≡ Some (calls.Create bytes)) (is_own : is_task sc t ≡ true) where
+  old_frame : IsFrame c (current sc m t) (forming_frame v at key) (forming_machine w place keys)
+  old_frame = frames_of c (current sc m t) (part_of c t).frame (tasked m t).frame _ _ own task (s.shape.tasks t positive inside).frame
+
+  no_keys : [] ≡ keys
+  no_keys = subst (λ o. keys_left o (Some v) key ≡ keys) create old_frame.keys_
+
   abbrev pub F : Frame
   F = record { forming = None; at = at; key = 0; receipt = None; lets = items v; claim = Claiming.Nothing }
 
   abbrev pub G : machine.Frame
-  G = record { forming = None; at_byte = place; keys = []; receipt = None; lets = places w; claim = None }
+  G = record { answered = true; forming = None; at_byte = place; keys = []; receipt = None; lets = places w; claim = None }
 
   abbrev pub x : Part
   x = with_frame (part_of c t) (closed F)
@@ -84,11 +79,12 @@ module _ (sc : Scenario) (k : Key) (c : Plain) (m : Machine) (t : ℕ) (positive
   stays : (u : ℕ) → 0 < u → u - 1 < length c.tasks → IsTask new_parts (current sc m u) (part_of c u) (tasked m u)
   stays u p i = task_stays c new_parts same refl (current sc m u) (part_of c u) (tasked m u) (s.shape.tasks u p i)
 
-  old_frame : IsFrame c (current sc m t) (forming_frame v at key) (forming_machine w place keys)
-  old_frame = frames_of c (current sc m t) (part_of c t).frame (tasked m t).frame _ _ own task (s.shape.tasks t positive inside).frame
+  formless_now : Formless G
+  formless_now answered = refl
 
   new_frame : IsFrame new_parts (current sc m t) F G
   new_frame = record {
+    answered = refl;
     forming = tt;
     at_byte = old_frame.at_byte;
     keys_ = rw create refl;
@@ -103,8 +99,14 @@ module _ (sc : Scenario) (k : Key) (c : Plain) (m : Machine) (t : ℕ) (positive
   own_task = let z : IsTask new_parts (current sc m t) (part_of c t) (tasked m t) = stays t positive inside in
       record { names = z.names; next = z.next; queue = z.queue; begun = z.begun; frame = closed_frames new_parts (current sc m t) F G new_frame }
 
-  same_table : IsTable c.table (set c.tasks (t - 1) x)
-  same_table = record { refs = λ r. s.shape.table.refs r ∙ sym (referred_set r c.tasks (t - 1) x inside refl refl); vouchers = s.shape.table.vouchers }
+  same_references : (r : ℕ) → referred_by r (set_task c.tasks t x) ≡ referred_by r c.tasks
+  same_references r = ap (referred_by r) (set_place c.tasks t x positive) ∙ referred_set r c.tasks (t - 1) x inside (ap (λ (p : Part). p.names) here) (ap (λ (p : Part). p.queue) here)
+    where
+      here : part_of c t ≡ get_or c.tasks (t - 1) idle_part
+      here = at_place c.tasks t idle_part positive
+
+  same_table : IsTable c.table (set_task c.tasks t x)
+  same_table = record { refs = λ r. s.shape.table.refs r ∙ sym (same_references r); vouchers = s.shape.table.vouchers }
 
   same_receipts : receipts_of k x.frame ≡ receipts_of k (part_of c t).frame
   same_receipts = receipts_closed k F ∙ sym (ap (receipts_of k) own)
@@ -113,10 +115,10 @@ module _ (sc : Scenario) (k : Key) (c : Plain) (m : Machine) (t : ℕ) (positive
   same_claims = claimed_closed new_parts (current sc m t) k F G new_frame ∙ rw (own, task) refl
 
   same_held : frame_holds k y.frame ≡ frame_holds k (tasked m t).frame
-  same_held = holds_closed k G ∙ places_hold k w ∙ sym (append-nil (listed (of_key k w))) ∙ sym (ap (frame_holds k) task)
+  same_held = holds_closed k G formless_now ∙ places_hold k w ∙ sym (append-nil (listed (of_key k w))) ∙ sym (ap (frame_holds k) task)
 
   opens : open_of y.frame ≡ 0
-  opens = open_closed G
+  opens = open_closed G formless_now
 
   opened : open_of (tasked m t).frame ≡ 1
   opened = ap open_of task
@@ -126,13 +128,13 @@ module _ (sc : Scenario) (k : Key) (c : Plain) (m : Machine) (t : ℕ) (positive
 
   done_after : rank_in sc t y ≤ rank_in sc t (tasked m t)
   done_after =
-      let a : rank_in sc t y ≡ length (places w) + 0 = rank_closed (current sc m t) G in
+      let a : rank_in sc t y ≡ length (places w) + 0 = rank_closed (current sc m t) G formless_now in
       let b : rank_in sc t (tasked m t) ≡ 0 + work_left (current sc m t) (forming_machine w place keys) (Some w) = ap (rank (current sc m t)) task in
       let d : work_left (current sc m t) (forming_machine w place keys) (Some w) ≡ work_left (Some (calls.Create bytes)) (forming_machine w place keys) (Some w) = ap (λ o. work_left o (forming_machine w place keys) (Some w)) create in
-      omega (arith, a, b, d, places_few w, work_there bytes (forming_machine w place keys) w)
+      omega (arith, a, b, d, places_few w, work_there bytes (forming_machine w place keys) w no_keys)
 
   makes_after : makes_in sc t y ≡ 0
-  makes_after = makes_closed (current sc m t) G
+  makes_after = makes_closed (current sc m t) G formless_now
 
   flying_after : flying_of y.frame ≡ 0
   flying_after = flying_closed G
@@ -152,7 +154,7 @@ module _ (sc : Scenario) (k : Key) (c : Plain) (m : Machine) (t : ℕ) (positive
 
   -- the entry's number is that of the call
   pub numbered : (tasked (frames.with_frame m t (frames.closed G)) t).begun ≡ (tasked m t).begun
-  numbered = ap (λ (z : Tasked). z.begun) (get_or-set_same m.tasks (t - 1) y idle (omega (arith, s.shape.long, inside)))
+  numbered = ap (λ (z : Tasked). z.begun) (own_item m.tasks t y idle positive (omega (arith, s.shape.long, inside)))
 
   pub is_refuse : new_machine ≡ refuse m t (forming_machine w place keys) (calls.Create bytes) code
   is_refuse = refl
@@ -160,4 +162,4 @@ module _ (sc : Scenario) (k : Key) (c : Plain) (m : Machine) (t : ℕ) (positive
   pub refused_stands : StandsFor sc (k ∷ []) new_parts new_machine
   refused_stands = stands_one sc k c m t positive inside s x y c.table (Some entry) (λ u n p i. stays u p i) own_task same_table same_receipts same_claims (λ h. ap (λ a. count h a + count h (flat_map (cell_holds c k) c.table)) same_held)
       answered (let a = opens in let b = opened in omega (arith, a, b)) paid
-      (refused_fits sc t m (forming_machine w place keys) (calls.Create bytes) code s.fits is_own task refl refl)
+      (refuse_keeps sc t m (forming_machine w place keys) w (calls.Create bytes) code s.fits is_own task refl refl refl refl)

@@ -1,6 +1,6 @@
 -- From what the code of a refusal does to the machine's.
-use Rattle.std.proofs.Common.{◌≡◌, ℕ, ◌+◌, ◌-◌, ◌<◌, ◌≤◌, true, List, [], ◌∷◌, ◌++◌, refl, arith, sym, ap, ◌∙◌, length, get_or, subst, Option, Some, None}
-use Rattle.std.proofs.Math.ListN.{set}
+use Rattle.std.proofs.Common.{◌≡◌, ℕ, ◌+◌, ◌-◌, ◌<◌, ◌≤◌, true, List, [], ◌∷◌, ◌++◌, refl, arith, sym, ap, ◌∙◌, length, subst, Option, Some, None}
+use Rattle.vch_base.specs.Tasks.{set_task, at_task}
 use Rattle.vch_base.specs.declared.fault.Code.{Code}
 use Rattle.vch_base.specs.declared.key.Key.TheVariants as keys
 use Rattle.vch_model.specs.declared.call.Call.{Call}
@@ -22,7 +22,7 @@ use Rattle.vch_state.specs.Shape.{Indices}
 use Rattle.vch_state.specs.Bounds.{open_of}
 use Rattle.vch_state.specs.Stands.{StandsFor}
 use Rattle.vch_state.specs.Reached.{plain_of, parts_in, IsState, Reached, value_kind}
-use Rattle.vch_state.proofs.Glue.{put_taken, own_frame, in_parts, in_frames, twin_of, from_reached}
+use Rattle.vch_state.proofs.CallerLemmas.{put_taken, own_frame, in_parts, in_frames, twin_of, from_reached}
 use Rattle.vch_create.specs.Formed.{items}
 use Rattle.vch_create.specs.Refusals.{IsRefusal}
 use Rattle.vch_create.proofs.Own.{own_begun, same_plain, room_for}
@@ -75,8 +75,8 @@ module _ (p : Parts) (t : ℕ) (f : Frame) (v : Indices) (task : is_task p.scena
       frame_then = ap (λ (u : Frame). record u { forming = None; key = 0; lets = u.lets ++ items v }) z.own
 
       tasks_then : parts_in p.spaces frames2 ≡ Next.tasks
-      tasks_then = ap (parts_in p.spaces) put ∙ put_taken p.spaces p.frames t (closed (record f { forming = None; key = 0; lets = f.lets ++ items v })) (in_frames p m t s task)
-          ∙ ap (λ u. set (parts_in p.spaces p.frames) (t - 1) (with_frame (get_or (parts_in p.spaces p.frames) (t - 1) idle_part) (closed u))) frame_then
+      tasks_then = ap (parts_in p.spaces) put ∙ put_taken p.spaces p.frames t (closed (record f { forming = None; key = 0; lets = f.lets ++ items v })) range.0 (in_frames p m t s task)
+          ∙ ap (λ u. set_task (parts_in p.spaces p.frames) t (with_frame (at_task (parts_in p.spaces p.frames) t idle_part) (closed u))) frame_then
 
       number_then : begun_of p.frames t ≡ (tasked m t).begun
       number_then = sym (own_begun p m t s task) ∙ (s.shape.tasks t range.0 range.1).begun

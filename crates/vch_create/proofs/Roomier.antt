@@ -1,5 +1,6 @@
 -- With more room, the parts stand for what they stood for.
-use Rattle.std.proofs.Common.{◌≡◌, ℕ, ◌+◌, ◌-◌, ◌<◌, ◌≤◌, List, [], ◌∷◌, ◌++◌, refl, arith, sym, ap, ◌∙◌, length, get_or, subst, Option}
+use Rattle.std.proofs.Common.{◌≡◌, ℕ, ◌+◌, ◌-◌, ◌<◌, ◌≤◌, List, [], ◌∷◌, ◌++◌, refl, arith, sym, ap, ◌∙◌, length, subst, Option}
+use Rattle.vch_base.specs.Tasks.{at_task}
 use Rattle.std.specs.List.{flat_map}
 use Rattle.vch_base.specs.declared.key.Key.{Key}
 use Rattle.vch_base.specs.declared.key.Key.TheVariants as keys
@@ -9,7 +10,8 @@ use Rattle.vch_table.specs.declared.table.Cell.{Cell}
 use Rattle.vch_value.specs.Picture as picture
 use Rattle.vch_value.specs.Picture.{Picture, Claimed, Meets, flags_at, claims_at, entry_of}
 use Rattle.vch_model.specs.declared.lists.Scenario.{Scenario}
-use Rattle.vch_machine.specs.State.{of_key, Machine, tasked}
+use Rattle.vch_base.specs.Keyed.{of_key}
+use Rattle.vch_machine.specs.State.{Machine, tasked}
 use Rattle.vch_machine.specs.Next.{current}
 use Rattle.vch_state.specs.declared.parts.Parts.{Parts}
 use Rattle.vch_state.specs.Plain.{Plain, Part, part_of, idle_part, number_at}
@@ -18,8 +20,7 @@ use Rattle.vch_state.specs.Pictures.{picture_of, task_holds, part_expects, cell_
 use Rattle.vch_state.specs.Stands.{StandsFor, KeyStands, all_live, owed}
 use Rattle.vch_state.specs.Bounds.{in_all, unanswered_in}
 use Rattle.vch_state.specs.Reached.{plain_of, IsState, IsEnd, Reached, Stands}
-use Rattle.vch_state.proofs.Keys.{cells_same}
-use Rattle.vch_state.proofs.Stable.{task_stays}
+use Rattle.vch_state.proofs.CallerLemmas.{cells_same, task_stays}
 use Rattle.vch_create.specs.Makes.{IsRoomier}
 
 -- entries with more places fit what they fitted
@@ -40,7 +41,7 @@ module _ (sc : Scenario) (k : Key) (c d : Plain) (m : Machine)
   shape_after : Shape sc d m
   shape_after = record {
     long = ap length tasks ∙ s.shape.long;
-    tasks = λ u p i. subst (λ xs. IsTask d (current sc m u) (get_or xs (u - 1) idle_part) (tasked m u)) (sym tasks)
+    tasks = λ u p i. subst (λ xs. IsTask d (current sc m u) (at_task xs u idle_part) (tasked m u)) (sym tasks)
         (task_stays c d stable table (current sc m u) (part_of c u) (tasked m u) (s.shape.tasks u p (subst (λ n. u - 1 < n) (ap length tasks) i)));
     table = subst (λ x. IsTable x d.tasks) (sym table) (subst (λ x. IsTable c.table x) (sym tasks) s.shape.table);
   }
@@ -86,6 +87,7 @@ module _ (old new : Parts) (r : IsRoomier old new) where
   each_slots keys.Importance = refl
   each_slots keys.Bank = refl
   each_slots keys.User = r.slots
+  each_slots keys.Test = refl
 
   pub roomier_state : (m : Machine) → Stands old m → Stands new m
   unfolding IsState

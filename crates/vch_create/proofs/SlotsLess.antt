@@ -9,11 +9,12 @@ use Rattle.vch_base.specs.Managers.{count}
 use Rattle.vch_base.specs.Slots.{slot_at, Writes}
 use Rattle.vch_table.specs.declared.table.Cell.{Cell}
 use Rattle.vch_table.specs.Vouchers.{Vouchers, given_back, less, references_of}
-use Rattle.vch_machine.specs.State.{Handles, of_key}
+use Rattle.vch_base.specs.Keyed.{of_key}
+use Rattle.vch_machine.specs.State.{Handles}
 use Rattle.vch_state.specs.Plain.{Plain, Part, SlotName}
 use Rattle.vch_state.specs.Shape.{Indices, Optional, IsIndexOf, IsMap, HasMap, IsSlotOf, index_of, slots_of, bit}
 use Rattle.vch_state.specs.Pictures.{cell_holds, listed, translated}
-use Rattle.vch_state.proofs.Maps.{at_key}
+use Rattle.vch_state.proofs.CallerLemmas.{at_key}
 use Rattle.vch_model.specs.declared.entry.Entry.{Entry}
 use Rattle.vch_create.specs.Drops.{Drops, Loses, LosesLast}
 use Rattle.vch_create.specs.declared.give_up.GivenUp.{GivenUp}

@@ -1,5 +1,6 @@
 -- What a task stands for stays where the entries stay and each slot that is live keeps its voucher.
 use Rattle.std.proofs.Common.{◌≡◌, ℕ, zero, suc, ◌+◌, ◌≤◌, ◌==◌, List, [], ◌∷◌, arith, refl, sym, subst, get_or, true, Option, Some, None}
+use Rattle.vch_base.specs.Tasks.{at_task}
 use Rattle.std.proofs.lemmas.Grind.{common_steps}
 use Rattle.vch_base.specs.Slots.{slot_at}
 use Rattle.vch_table.specs.declared.table.Cell.{Cell}
@@ -9,14 +10,19 @@ use Rattle.vch_model.specs.declared.entry.Entry.{Entry}
 use Rattle.vch_machine.specs.State.{Handles, Message, Named, Tasked}
 use Rattle.vch_state.specs.Plain.{Plain, Part, SlotMessage, SlotName, idle_part}
 use Rattle.vch_state.specs.Shape.{Pairwise, Optional, IsSlotOf, IsName, IsMessage, IsFrame, IsTask, bit, is_slot, named_by, queued_by, referred_by}
-use Rattle.vch_state.proofs.Stable.{optional}
+use Rattle.vch_state.proofs.CallerLemmas.{optional}
 use Rattle.vch_create.proofs.Kept.{then_, frame_kept}
 
 -- what one task refers to is at most what all do
-pub referred_at : (r : ℕ) (xs : List Part) (i : ℕ) → named_by r (get_or xs i idle_part).names + queued_by r (get_or xs i idle_part).queue ≤ referred_by r xs
-referred_at r [] i = omega arith
-referred_at r (x ∷ xs) zero = omega arith
-referred_at r (x ∷ xs) (suc i) = let e : named_by r (get_or xs i idle_part).names + queued_by r (get_or xs i idle_part).queue ≤ referred_by r xs = referred_at r xs i in omega (arith, e)
+referred_from : (r : ℕ) (xs : List Part) (i : ℕ) → named_by r (get_or xs i idle_part).names + queued_by r (get_or xs i idle_part).queue ≤ referred_by r xs
+referred_from r [] i = omega arith
+referred_from r (x ∷ xs) zero = omega arith
+referred_from r (x ∷ xs) (suc i) = let e : named_by r (get_or xs i idle_part).names + queued_by r (get_or xs i idle_part).queue ≤ referred_by r xs = referred_from r xs i in omega (arith, e)
+
+-- what a task refers to is among what all refer to
+pub referred_at : (r : ℕ) (xs : List Part) (t : ℕ) → named_by r (at_task xs t idle_part).names + queued_by r (at_task xs t idle_part).queue ≤ referred_by r xs
+referred_at r xs zero = omega arith
+referred_at r xs (suc i) = referred_from r xs i
 
 one_bit : (a b : ℕ) → a ≡ b → (n : ℕ) → 1 ≤ bit (a == b) + n
 one_bit a b e n = let hit : (a == b) ≡ true = grind (arith, common_steps) in subst (λ x. 1 ≤ bit x + n) (sym hit) (one n)

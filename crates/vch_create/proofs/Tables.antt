@@ -1,5 +1,6 @@
 -- The voucher table once a task got a name for a voucher.
 use Rattle.std.proofs.Common.{◌≡◌, ◌≢◌, ℕ, zero, suc, ◌+◌, ◌-◌, ◌<◌, ◌≤◌, ◌==◌, nat_lt, Bool, true, false, cond, List, [], ◌∷◌, refl, arith, sym, ap, ◌∙◌, length, get_or, subst, Option, Some, None, inl, inr}
+use Rattle.vch_base.specs.Tasks.{at_task, set_task}
 use Rattle.std.specs.List.{flat_map}
 use Rattle.std.proofs.lemmas.Bool.{cases_eq}
 use Rattle.std.proofs.lemmas.Grind.{common_steps}
@@ -12,11 +13,12 @@ use Rattle.vch_table.specs.declared.table.Met.{Met}
 use Rattle.vch_table.specs.Vouchers.{Vouchers, less, more, meets, references_of}
 use Rattle.vch_ports.specs.Names.{by_slot}
 use Rattle.vch_model.specs.declared.entry.Entry.{Entry}
-use Rattle.vch_machine.specs.State.{Handles, Named, of_key}
+use Rattle.vch_base.specs.Keyed.{of_key}
+use Rattle.vch_machine.specs.State.{Handles, Named}
 use Rattle.vch_state.specs.Plain.{Plain, Part, SlotName, idle_part}
 use Rattle.vch_state.specs.Shape.{Indices, Pairwise, Optional, IsIndexOf, IsMap, HasMap, IsSlotOf, IsName, index_of, slots_of, named_by, queued_by, referred_by}
 use Rattle.vch_state.specs.Pictures.{cell_holds, listed, translated}
-use Rattle.vch_state.proofs.Maps.{at_key}
+use Rattle.vch_state.proofs.CallerLemmas.{at_key}
 use Rattle.vch_create.specs.Gives.{GivesBack, Releases}
 use Rattle.vch_create.proofs.Slots.{written}
 
@@ -102,14 +104,19 @@ put_by old mid new u met was vouchers e back live = by_old (slot_at old met.slot
         }
         by_back true g l = absurd (l refl q)
 
--- names and queues refer to the slots: where one task is replaced
-pub referred_with : (r : ℕ) (xs : List Part) (i : ℕ) (x : Part) → i < length xs
+referred_from : (r : ℕ) (xs : List Part) (i : ℕ) (x : Part) → i < length xs
     → referred_by r (set xs i x) + (named_by r (get_or xs i idle_part).names + queued_by r (get_or xs i idle_part).queue) ≡ referred_by r xs + (named_by r x.names + queued_by r x.queue)
-referred_with r [] i x l = absurd (omega arith)
-referred_with r (y ∷ xs) zero x l = omega arith
-referred_with r (y ∷ xs) (suc i) x l =
-    let e : referred_by r (set xs i x) + (named_by r (get_or xs i idle_part).names + queued_by r (get_or xs i idle_part).queue) ≡ referred_by r xs + (named_by r x.names + queued_by r x.queue) = referred_with r xs i x (omega arith) in
+referred_from r [] i x l = absurd (omega arith)
+referred_from r (y ∷ xs) zero x l = omega arith
+referred_from r (y ∷ xs) (suc i) x l =
+    let e : referred_by r (set xs i x) + (named_by r (get_or xs i idle_part).names + queued_by r (get_or xs i idle_part).queue) ≡ referred_by r xs + (named_by r x.names + queued_by r x.queue) = referred_from r xs i x (omega arith) in
     omega (arith, e)
+
+-- names and queues refer to the slots: where one task is replaced
+pub referred_with : (r : ℕ) (xs : List Part) (t : ℕ) (x : Part) → 0 < t → t - 1 < length xs
+    → referred_by r (set_task xs t x) + (named_by r (at_task xs t idle_part).names + queued_by r (at_task xs t idle_part).queue) ≡ referred_by r xs + (named_by r x.names + queued_by r x.queue)
+referred_with r xs zero x positive l = absurd (omega (arith, positive))
+referred_with r xs (suc i) x positive l = referred_from r xs i x (omega (arith, l))
 
 module _ (c : Plain) (u : Indices) (v : Handles) (map : IsMap c u v) (new : List (Option Cell)) (s n : ℕ) (put : Put c.table new u s n)
     (same : (x : Cell) → slot_at c.table s ≡ Some x → x.indices ≡ u) where

@@ -1,6 +1,7 @@
 -- Slots of the voucher table and vouchers of the machine: a slot has the handles of a voucher exactly where a name or a
 -- message with that slot has the voucher.
-use Rattle.std.proofs.Common.{◌≡◌, ℕ, zero, suc, ◌+◌, ◌-◌, ◌<◌, ◌==◌, nat_lt, ◌||◌, Bool, true, false, cond, List, [], ◌∷◌, refl, arith, sym, ap, ◌∙◌, length, get_or, subst, Option, Some, None}
+use Rattle.std.proofs.Common.{◌≡◌, ℕ, zero, suc, ◌+◌, ◌<◌, ◌==◌, nat_lt, ◌||◌, Bool, true, false, cond, List, [], ◌∷◌, refl, arith, sym, ap, ◌∙◌, length, get_or, subst, Option, Some, None}
+use Rattle.vch_base.specs.Tasks.{set_task}
 use Rattle.std.specs.List.{list_any}
 use Rattle.std.proofs.lemmas.Grind.{common_steps}
 use Rattle.std.proofs.Math.ListN.{set}
@@ -14,18 +15,17 @@ use Rattle.vch_ports.specs.Names.{by_slot}
 use Rattle.vch_model.specs.declared.lists.Scenario.{Scenario}
 use Rattle.vch_machine.specs.State.{Handles, Named, Message, Machine, Tasked, idle}
 use Rattle.vch_machine.specs.Naming.{name_of, same_handle, same_handles, option_same, task_knows, is_known}
-use Rattle.vch_legal.proofs.PutSpots.{handles_eq}
+use Rattle.vch_legal.proofs.CallerLemmas.{handles_eq}
 use Rattle.vch_state.specs.Plain.{Plain, Part, SlotName, SlotMessage, idle_part}
 use Rattle.vch_state.specs.Shape.{Shape, Indices, Pairwise, Optional, IsMap, HasMap, IsSlotOf, IsName, IsMessage, slots_of, bit, is_slot, named_by, queued_by, referred_by}
-use Rattle.vch_state.proofs.Held.{cases_of}
-use Rattle.vch_state.proofs.Maps.{maps_equal, handles_equal}
+use Rattle.vch_state.proofs.CallerLemmas.{cases_of, maps_equal, handles_equal}
 
 same_one : (o : Option ℕ) → same_handle o o ≡ true
 same_one None = refl
 same_one (Some a) = grind (arith, common_steps)
 
 pub same_self : (w : Handles) → same_handles w w ≡ true
-same_self w = let a = same_one w.importance in let b = same_one w.bank in let d = same_one w.user in rw (a, b, d) refl
+same_self w = let a = same_one w.importance in let b = same_one w.bank in let d = same_one w.user in let e = same_one w.test in rw (a, b, d, e) refl
 
 -- the voucher of a slot is this one exactly where the slot is this one
 abbrev pub Tests : Plain → Handles → ℕ → Type 0
@@ -146,18 +146,22 @@ keeps_all c [] (y ∷ ys) l f = absurd (omega arith)
 keeps_all c (x ∷ xs) [] l f = absurd (omega arith)
 keeps_all c (x ∷ xs) (y ∷ ys) l f = (f 0 (omega arith), keeps_all c xs ys (omega (arith, l)) (λ i j. f (suc i) (omega (arith, j))))
 
-pub keeps_set : (c : Plain) (xs : List Part) (ys : List Tasked) (i : ℕ) (x : Part) (y : Tasked) → Pairwise (Keeps c) xs ys → Keeps c x y → Pairwise (Keeps c) (set xs i x) (set ys i y)
+keeps_set : (c : Plain) (xs : List Part) (ys : List Tasked) (i : ℕ) (x : Part) (y : Tasked) → Pairwise (Keeps c) xs ys → Keeps c x y → Pairwise (Keeps c) (set xs i x) (set ys i y)
 keeps_set c [] [] i x y r k = tt
 keeps_set c [] (b ∷ ys) i x y r k = absurd r
 keeps_set c (a ∷ xs) [] i x y r k = absurd r
 keeps_set c (a ∷ xs) (b ∷ ys) zero x y r k = (k, r.1)
 keeps_set c (a ∷ xs) (b ∷ ys) (suc i) x y r k = (r.0, keeps_set c xs ys i x y r.1 k)
 
+-- by task
+pub keeps_put : (c : Plain) (xs : List Part) (ys : List Tasked) (t : ℕ) (x : Part) (y : Tasked) → Pairwise (Keeps c) xs ys → Keeps c x y → Pairwise (Keeps c) (set_task xs t x) (set_task ys t y)
+keeps_put c xs ys zero x y r k = r
+keeps_put c xs ys (suc i) x y r k = keeps_set c xs ys i x y r k
+
 pub keeps_of : (sc : Scenario) (c : Plain) (m : Machine) → Shape sc c m → Pairwise (Keeps c) c.tasks m.tasks
 keeps_of sc c m s = keeps_all c c.tasks m.tasks s.long (λ i l.
-    let e : suc i - 1 ≡ i = omega arith in
     let t = s.tasks (suc i) (omega arith) (omega (arith, l)) in
-    subst (λ j. Keeps c (get_or c.tasks j idle_part) (get_or m.tasks j idle)) e (record { names = t.names; queue = t.queue }))
+    record { names = t.names; queue = t.queue })
 
 -- the state knows the voucher exactly where the slot was live
 pub known_is : (sc : Scenario) (c : Plain) (m : Machine) (v : Handles) (s : ℕ) → Shape sc c m → Tests c v s → is_known m v ≡ nat_lt 0 (references_of (slot_at c.table s))

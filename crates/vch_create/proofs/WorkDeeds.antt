@@ -1,5 +1,5 @@
 -- A record's deed at one key or at all, by indices and by handles.
-use Rattle.std.proofs.Common.{◌≡◌, ℕ, ◌==◌, Bool, true, false, cond, List, refl, arith, sym, ap, ◌∙◌, subst, Option, Some, None}
+use Rattle.std.proofs.Common.{◌≡◌, ℕ, ◌==◌, Bool, true, false, cond, List, [], ◌∷◌, refl, arith, sym, ap, ◌∙◌, subst, Option, Some, None}
 use Rattle.std.proofs.lemmas.Grind.{common_steps}
 use Rattle.vch_base.specs.declared.key.Key.{Key}
 use Rattle.vch_base.specs.declared.key.Key.TheVariants as keys
@@ -8,18 +8,21 @@ use Rattle.vch_entry.specs.Entries.{IsApart, handle_at}
 use Rattle.vch_value.specs.Flight.{Receipt}
 use Rattle.vch_value.specs.Picture as picture
 use Rattle.vch_value.specs.Picture.{Picture, Claimed}
-use Rattle.vch_machine.specs.State.{of_key, Handles}
+use Rattle.vch_base.specs.Keyed.{of_key}
+use Rattle.vch_machine.specs.State.{Handles}
 use Rattle.vch_machine.specs.Naming.{same_handle}
-use Rattle.vch_machine.specs.Working.{Worked, changed, copies, removes}
+use Rattle.vch_machine.specs.Working.{Worked, changed, changed_each, copies, removes}
 use Rattle.vch_state.specs.Plain.{Plain}
 use Rattle.vch_state.specs.Shape.{Indices, index_of, Optional, IsIndexOf, IsMap, slots_of}
-use Rattle.vch_state.proofs.Held.{either_way}
-use Rattle.vch_state.proofs.Maps.{at_key}
+use Rattle.vch_state.proofs.CallerLemmas.{either_way, at_key}
 use Rattle.vch_create.specs.declared.change.Deed.{Deed}
 use Rattle.vch_create.specs.declared.change.Deed.TheVariants as deeds
 use Rattle.vch_create.specs.declared.change.AtKeys.{AtKeys}
 use Rattle.vch_create.specs.declared.change.AtKeys.TheVariants as at
-use Rattle.vch_create.specs.Works.{Workspace, Changes, ChangesAt, becomes}
+use Rattle.vch_create.specs.Works.{Workspace, Changes, ChangesEach, ChangesAt, becomes}
+use Rattle.std.specs.List.{AllByRecursion}
+use Rattle.vch_base.specs.Keys.{managed, same_key}
+use Rattle.vch_base.proofs.CallerLemmas.{with_of}
 use Rattle.vch_create.proofs.WorkMaps.{done, OnlyUser, Becomes, Related, related_step, IsShared, P, seen_step}
 
 module _ (c : Plain) where
@@ -63,17 +66,21 @@ module _ (c : Plain) where
         (same_both k (index_of k v) (index_of k map) (of_key k d.0) (of_key k x) (apart k) (at_key c k v d.0 d.1) (at_key c k map x m) ∙ ap (same_handle (of_key k d.0)) e))
 
     -- a change at one key leaves the others
-    other_importance : (y : Option (Option ℕ)) (w : Worked) → of_key keys.Bank (changed keys.Importance y w).forming ≡ of_key keys.Bank w.forming
-    other_importance None w = refl
-    other_importance (Some h) w = refl
+    changed_other : (j k : Key) → same_key j k ≡ false → (y : Option (Option ℕ)) (z : Worked) → of_key j (changed k y z).forming ≡ of_key j z.forming
+    changed_other j k e None z = refl
+    changed_other j k e (Some h) z = with_of j k h z.forming ∙ ap (λ b. cond b h (of_key j z.forming)) e
 
-    user_importance : (y : Option (Option ℕ)) (w : Worked) → of_key keys.User (changed keys.Importance y w).forming ≡ of_key keys.User w.forming
-    user_importance None w = refl
-    user_importance (Some h) w = refl
+    -- keys that all differ
+    abbrev Apart : List Key → Type 0
+    Apart [] = Unit {0}
+    Apart (k ∷ ks) = AllByRecursion (λ j. same_key j k ≡ false) ks × Apart ks
 
-    user_bank : (y : Option (Option ℕ)) (w : Worked) → of_key keys.User (changed keys.Bank y w).forming ≡ of_key keys.User w.forming
-    user_bank None w = refl
-    user_bank (Some h) w = refl
+    managed_apart : (version : ℕ) → Apart (managed version)
+    managed_apart version = by (version == 2)
+      where
+        by : (b : Bool) → Apart (keys.Importance ∷ keys.Bank ∷ keys.User ∷ cond b (keys.Test ∷ []) [])
+        by true = ((refl, (refl, (refl, tt))), ((refl, (refl, tt)), ((refl, tt), (tt, tt))))
+        by false = ((refl, (refl, tt)), ((refl, tt), (tt, tt)))
 
     module _ (only : OnlyUser c) (kept : Kept) (ahead after : List ℕ) (receipts : List Receipt) (claims : List Claimed)
         (w : Handles) (deed : Deed) (f : Key → Option (Option ℕ)) (is : DeedIs w deed f)
@@ -86,10 +93,22 @@ module _ (c : Plain) where
           let m : Becomes c k (becomes deed a.map k) (f k) = becomes_is w deed f is k a.map z.forming r.0.map e in
           (related_step c k a b z (becomes deed a.map k) (f k) m g r.0, seen_step c only kept ahead after receipts claims k a b z (becomes deed a.map k) (f k) m (shared k a.map) g r.0 r.1)
 
-      pub both_done : (ks : AtKeys) (a b : Workspace) (z : Worked) → z.forming ≡ w → ChangesAt a ks deed b → Both a z → Both b (done ks f z)
-      both_done (at.One k) a b z e g r = one_step k a b z (ap (of_key k) e) g r
-      both_done at.All a b z e g r =
-          let z1 : Worked = changed keys.Importance (f keys.Importance) z in
-          let z2 : Worked = changed keys.Bank (f keys.Bank) z1 in
-          one_step keys.User g.1 b z2 (user_bank (f keys.Bank) z1 ∙ (user_importance (f keys.Importance) z ∙ ap (of_key keys.User) e)) g.4
-          (one_step keys.Bank g.0 g.1 z1 (other_importance (f keys.Importance) z ∙ ap (of_key keys.Bank) e) g.3 (one_step keys.Importance a g.0 z (ap (of_key keys.Importance) e) g.2 r))
+      -- the map has what it had at each of these keys
+      abbrev Same : List Key → Worked → Type 0
+      Same ks z = AllByRecursion (λ k. of_key k z.forming ≡ of_key k w) ks
+
+      same_then : (k : Key) (ks : List Key) (y : Option (Option ℕ)) (z : Worked) → AllByRecursion (λ j. same_key j k ≡ false) ks → Same ks z → Same ks (changed k y z)
+      same_then k [] y z d s = tt
+      same_then k (j ∷ ks) y z d s = (changed_other j k d.0 y z ∙ s.0, same_then k ks y z d.1 s.1)
+
+      each_done : (ks : List Key) (a b : Workspace) (z : Worked) → Apart ks → Same ks z → ChangesEach ks a deed b → Both a z → Both b (changed_each f ks z)
+      each_done [] a b z d s g r = subst (λ x. Both x z) (sym g) r
+      each_done (k ∷ ks) a b z d s g r = each_done ks g.0 b (changed k (f k) z) d.1 (same_then k ks (f k) z d.0 s.1) g.2 (one_step k a g.0 z s.0 g.1 r)
+
+      all_same : (ks : List Key) (z : Worked) → z.forming ≡ w → Same ks z
+      all_same [] z e = tt
+      all_same (k ∷ ks) z e = (ap (of_key k) e, all_same ks z e)
+
+      pub both_done : (version : ℕ) (ks : AtKeys) (a b : Workspace) (z : Worked) → z.forming ≡ w → ChangesAt version a ks deed b → Both a z → Both b (done version ks f z)
+      both_done version (at.One k) a b z e g r = one_step k a b z (ap (of_key k) e) g r
+      both_done version at.All a b z e g r = each_done (managed version) a b z (managed_apart version) (all_same (managed version) z e) g r

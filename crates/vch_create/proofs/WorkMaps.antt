@@ -1,5 +1,5 @@
 -- A record's change of a map, by indices and by handles: both agree key by key, and the entries fit what holds them then.
-use Rattle.std.proofs.Common.{◌≡◌, ℕ, ◌+◌, ◌<◌, ◌==◌, cond, List, [], ◌∷◌, ◌++◌, refl, arith, sym, ap, ◌∙◌, append_assoc, subst, Option, Some, None}
+use Rattle.std.proofs.Common.{◌≡◌, ℕ, ◌+◌, ◌<◌, ◌==◌, false, cond, List, [], ◌∷◌, ◌++◌, refl, arith, sym, ap, ◌∙◌, append_assoc, subst, Option, Some, None}
 use Rattle.std.specs.List.{flat_map}
 use Rattle.std.proofs.lemmas.List.Sums.{sum_by-append}
 use Rattle.vch_base.specs.declared.key.Key.{Key}
@@ -9,16 +9,16 @@ use Rattle.vch_entry.specs.Entries.{entry_at, handle_at, made_of}
 use Rattle.vch_value.specs.Flight.{Receipt}
 use Rattle.vch_value.specs.Picture as picture
 use Rattle.vch_value.specs.Picture.{Picture, Claimed, Alike}
-use Rattle.vch_value.proofs.Rows.{stands_alike}
-use Rattle.vch_machine.specs.State.{of_key}
+use Rattle.vch_value.proofs.CallerLemmas.{stands_alike}
+use Rattle.vch_base.specs.Keyed.{of_key}
 use Rattle.vch_machine.specs.Naming as naming
 use Rattle.vch_machine.specs.Naming.{same_handle}
-use Rattle.vch_machine.specs.Working.{Worked, changed}
+use Rattle.vch_machine.specs.Working.{Worked, changed, changed_each}
+use Rattle.vch_base.specs.Keys.{managed, same_key}
 use Rattle.vch_state.specs.Plain.{Plain}
 use Rattle.vch_state.specs.Shape.{index_of, Pairwise, Optional, IsIndexOf, IsMap, IsLet, slots_of}
 use Rattle.vch_state.specs.Pictures.{let_holds, listed}
-use Rattle.vch_state.proofs.Maps.{at_key, map_with}
-use Rattle.vch_state.proofs.Replaced.{pictured}
+use Rattle.vch_state.proofs.CallerLemmas.{at_key, map_with, pictured}
 use Rattle.vch_create.specs.declared.change.AtKeys.{AtKeys}
 use Rattle.vch_create.specs.declared.change.AtKeys.TheVariants as at
 use Rattle.vch_create.specs.Formed.{item}
@@ -26,10 +26,10 @@ use Rattle.vch_create.specs.Works.{Workspace, Changes, shared_at, HeldAt}
 use Rattle.vch_create.proofs.Items.{pairwise_append, item_lets}
 use Rattle.vch_create.proofs.WorkShares.{Stay, shares_stay}
 
--- the machine's change at a key, or at all
-abbrev pub done : AtKeys → (Key → Option (Option ℕ)) → Worked → Worked
-done (at.One k) f w = changed k (f k) w
-done at.All f w = changed keys.User (f keys.User) (changed keys.Bank (f keys.Bank) (changed keys.Importance (f keys.Importance) w))
+-- the machine's change at a key, or at all managed ones
+abbrev pub done : ℕ → AtKeys → (Key → Option (Option ℕ)) → Worked → Worked
+done version (at.One k) f w = changed k (f k) w
+done version at.All f w = changed_each f (managed version) w
 
 -- who holds what at the key of user data, where a frame forms this
 abbrev pub worked_holds : Worked → List ℕ
@@ -53,32 +53,29 @@ changed_holds k h w j = by k
     pieces : (a left more : List ℕ) → count j (a ++ (left ++ more)) ≡ count j a + (count j left + count j more)
     pieces a left more = count_append j a (left ++ more) ∙ ap (λ n. count j a + n) (count_append j left more)
 
-    nothing_imp : (o : Option ℕ) → flat_map (let_holds keys.User) (naming.item keys.Importance o) ≡ []
-    nothing_imp None = refl
-    nothing_imp (Some g) = refl
+    none : count j [] ≡ 0
+    none = refl
 
-    nothing_bank : (o : Option ℕ) → flat_map (let_holds keys.User) (naming.item keys.Bank o) ≡ []
-    nothing_bank None = refl
-    nothing_bank (Some g) = refl
+    -- what is let go at another key holds nothing of user data
+    nothing : (k : Key) → same_key k keys.User ≡ false → (o : Option ℕ) → flat_map (let_holds keys.User) (naming.item k o) ≡ []
+    nothing k e None = refl
+    nothing k e (Some g) = ap (λ b. cond b (g ∷ []) [] ++ []) e
 
     user : (o : Option ℕ) → flat_map (let_holds keys.User) (naming.item keys.User o) ≡ listed o
     user None = refl
     user (Some g) = refl
 
-    none : count j [] ≡ 0
-    none = refl
+    other : (k : Key) → same_key k keys.User ≡ false → count j (listed w.forming.user ++ flat_map (let_holds keys.User) (w.left ++ naming.item k (of_key k w.forming))) ≡ count j [] + count j (worked_holds w)
+    other k q =
+        let e : flat_map (let_holds keys.User) (w.left ++ naming.item k (of_key k w.forming)) ≡ flat_map (let_holds keys.User) w.left ++ [] = flat_append (let_holds keys.User) w.left (naming.item k (of_key k w.forming)) ∙ ap (λ z. flat_map (let_holds keys.User) w.left ++ z) (nothing k q (of_key k w.forming)) in
+        let a = pieces (listed w.forming.user) (flat_map (let_holds keys.User) w.left) [] in
+        let b : count j (worked_holds w) ≡ count j (listed w.forming.user) + count j (flat_map (let_holds keys.User) w.left) = count_append j (listed w.forming.user) (flat_map (let_holds keys.User) w.left) in
+        rw e (omega (arith, a, b, none))
 
     by : (k : Key) → count j (worked_holds (changed k (Some h) w)) ≡ count j (added k h) + count j (worked_holds w)
-    by keys.Importance =
-        let e : flat_map (let_holds keys.User) (w.left ++ naming.item keys.Importance w.forming.importance) ≡ flat_map (let_holds keys.User) w.left ++ [] = flat_append (let_holds keys.User) w.left (naming.item keys.Importance w.forming.importance) ∙ ap (λ z. flat_map (let_holds keys.User) w.left ++ z) (nothing_imp w.forming.importance) in
-        let a = pieces (listed w.forming.user) (flat_map (let_holds keys.User) w.left) [] in
-        let b : count j (worked_holds w) ≡ count j (listed w.forming.user) + count j (flat_map (let_holds keys.User) w.left) = count_append j (listed w.forming.user) (flat_map (let_holds keys.User) w.left) in
-        rw e (omega (arith, a, b, none))
-    by keys.Bank =
-        let e : flat_map (let_holds keys.User) (w.left ++ naming.item keys.Bank w.forming.bank) ≡ flat_map (let_holds keys.User) w.left ++ [] = flat_append (let_holds keys.User) w.left (naming.item keys.Bank w.forming.bank) ∙ ap (λ z. flat_map (let_holds keys.User) w.left ++ z) (nothing_bank w.forming.bank) in
-        let a = pieces (listed w.forming.user) (flat_map (let_holds keys.User) w.left) [] in
-        let b : count j (worked_holds w) ≡ count j (listed w.forming.user) + count j (flat_map (let_holds keys.User) w.left) = count_append j (listed w.forming.user) (flat_map (let_holds keys.User) w.left) in
-        rw e (omega (arith, a, b, none))
+    by keys.Importance = other keys.Importance refl
+    by keys.Bank = other keys.Bank refl
+    by keys.Test = other keys.Test refl
     by keys.User =
         let e : flat_map (let_holds keys.User) (w.left ++ naming.item keys.User w.forming.user) ≡ flat_map (let_holds keys.User) w.left ++ listed w.forming.user = flat_append (let_holds keys.User) w.left (naming.item keys.User w.forming.user) ∙ ap (λ z. flat_map (let_holds keys.User) w.left ++ z) (user w.forming.user) in
         let a = pieces (listed h) (flat_map (let_holds keys.User) w.left) (listed w.forming.user) in
@@ -144,6 +141,7 @@ module _ (c : Plain) where
         no_more j keys.Importance = refl
         no_more j keys.Bank = refl
         no_more j keys.User = refl
+        no_more j keys.Test = refl
 
     alike_some : (h : ℕ) (w : Worked) → Alike (shared_at (Some h) (P w)) (P (changed keys.User (Some (Some h)) w))
     alike_some h w = record {
@@ -169,6 +167,7 @@ module _ (c : Plain) where
         by : (z : Key) → z ≡ keys.User → IsIndexOf c z i h → picture.Stands (P (changed z (Some (Some h)) w)) g.entries kept
         by keys.Importance z b = absurd (cc)
         by keys.Bank z b = absurd (cc)
+        by keys.Test z b = absurd (cc)
         by keys.User z b =
             let at : handle_at f.entries.slots i ≡ Some h = r.handles i ∙ b in
             let held : 0 < count h (P w).holders = let a = around h w in let d = q h b in omega (arith, a, d) in

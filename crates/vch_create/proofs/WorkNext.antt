@@ -1,8 +1,9 @@
 -- Where a Work is next: the frame forms a voucher, and the record at its place is whole or cut.
 use Rattle.std.proofs.Common.{◌≡◌, ℕ, zero, suc, ◌+◌, ◌-◌, ◌<◌, ◌≤◌, ◌==◌, nat_lt, Bool, true, false, cond, List, [], ◌∷◌, refl, arith, sym, ap, ◌∙◌, length, drop, get_or, subst, Option, Some, None, IsTrue}
-use Rattle.std.specs.Prelude.{IsSome}
+use Rattle.std.specs.Prelude.{IsSome, is_some, not}
 use Rattle.std.proofs.lemmas.Grind.{common_steps}
 use Rattle.std.proofs.lemmas.List.{length-drop}
+use Rattle.vch_base.specs.Tasks.{at_task}
 use Rattle.vch_base.specs.Slots.{slot_at}
 use Rattle.vch_base.specs.declared.key.Key.TheVariants as keys
 use Rattle.vch_base.specs.declared.kind.Kind.{Kind}
@@ -26,7 +27,7 @@ use Rattle.vch_state.specs.Shape.{Indices, IsKeyed, Optional, Pairwise, IsFrame,
 use Rattle.vch_state.specs.Bounds.{Limited}
 use Rattle.vch_state.specs.Stands.{StandsFor}
 use Rattle.vch_state.specs.Reached.{plain_of, parts_in, IsState, IsEnd, IsNext, Reached, Stands, value_kind}
-use Rattle.vch_state.proofs.Glue.{own_frame, in_parts, in_frames, twin_of}
+use Rattle.vch_state.proofs.CallerLemmas.{own_frame, in_parts, in_frames, twin_of}
 use Rattle.vch_create.specs.Formed.{is_forming}
 use Rattle.vch_create.specs.Works.{cell_indices, slot_indices, voucher_in, IsThere, NamesAreThere}
 use Rattle.vch_create.proofs.Own.{own_begun}
@@ -58,8 +59,8 @@ no_lets : (c : Plain) (ps : List Place) → Pairwise (IsLet c) [] ps → ps ≡ 
 no_lets c [] e = refl
 no_lets c (p ∷ ps) e = absurd e
 
-nothing_next : (names : List machine.Named) (g : machine.Frame) (call : Option Call) → g.receipt ≡ None → g.claim ≡ None → g.lets ≡ [] → g.forming ≡ None → frame_next names g call g.receipt ≡ None
-nothing_next names g call a b d e = rw (a, b, d, e) refl
+nothing_next : (version : ℕ) (names : List machine.Named) (g : machine.Frame) (call : Option Call) → g.receipt ≡ None → g.claim ≡ None → g.lets ≡ [] → g.answered ≡ true → frame_next version names g call g.receipt ≡ None
+nothing_next version names g call a b d e = rw (a, b, d, e) refl
 
 no_kind : (k : Option Kind) → None ≡ Some kinds.Work → ⊥
 no_kind k e = cc
@@ -101,6 +102,10 @@ parts_names (s ∷ ss) [] i l = absurd (omega arith)
 parts_names (s ∷ ss) (x ∷ fs) zero l = refl
 parts_names (s ∷ ss) (x ∷ fs) (suc i) l = parts_names ss fs i (omega arith)
 
+names_at : (ss : List Names) (fs : List Working) (t : ℕ) → t - 1 < length (parts_in ss fs) → (at_task (parts_in ss fs) t idle_part).names ≡ (names_of ss t).names
+names_at ss fs zero l = refl
+names_at ss fs (suc i) l = parts_names ss fs i (omega (arith, l))
+
 spaces_range : (ss : List Names) (fs : List Working) → length (parts_in ss fs) ≤ length ss
 spaces_range [] fs = omega arith
 spaces_range (s ∷ ss) [] = omega arith
@@ -113,7 +118,7 @@ frames_range (s ∷ ss) (x ∷ fs) = let e : length (parts_in ss fs) ≤ length 
 
 module _ (p : Parts) (t : ℕ) (task : is_task p.scenario t ≡ true) where
   pub own_names : (m : Machine) → StandsFor p.scenario (keys.User ∷ []) (plain_of p) m → (part_of (plain_of p) t).names ≡ (names_of p.spaces t).names
-  own_names m s = parts_names p.spaces p.frames (t - 1) (in_frames p m t s task)
+  own_names m s = names_at p.spaces p.frames t (in_frames p m t s task)
 
   pub task_names : (m : Machine) → StandsFor p.scenario (keys.User ∷ []) (plain_of p) m → Pairwise (IsName (plain_of p)) (names_of p.spaces t).names (tasked m t).names
   task_names m s =
@@ -145,7 +150,7 @@ module _ (p : Parts) (t : ℕ) (task : is_task p.scenario t ≡ true) where
       pub twin : (tasked m t).frame ≡ Some g
       pub both : Forming (plain_of p) (current p.scenario m t) f g v w bytes
       pub frames : IsFrame (plain_of p) (current p.scenario m t) f g
-      pub first : first_next (tasked m t).names (first_of (drop g.at_byte bytes)) ≡ kinds.Work
+      pub first : first_next p.scenario.version (tasked m t).names (first_of (drop g.at_byte bytes)) ≡ kinds.Work
 
     no_frame : (b : Bool) → cond b (Some kinds.Begin) None ≡ Some kinds.Work → ⊥
     no_frame true e = cc
@@ -170,10 +175,6 @@ module _ (p : Parts) (t : ℕ) (task : is_task p.scenario t ≡ true) where
         none_in None r k = no_frame (nat_lt (tasked m t).begun (lines_until p.scenario (phases_in m.past + 1) t)) k
         none_in (Some g) r k = absurd r
 
-        no_map : (o : Option Handles) → Optional (IsMap (plain_of p)) None o → o ≡ None
-        no_map None r = refl
-        no_map (Some x) r = absurd r
-
         by_forming : (f : Frame) → frame_of p.frames t ≡ Some f → (g : machine.Frame) → (tasked m t).frame ≡ Some g → IsFrame (plain_of p) (current p.scenario m t) f g → (o : Option Indices) → f.forming ≡ o → A
         by_forming f own g twin r (Some v) forms =
             forming_of (plain_of p) (current p.scenario m t) f g v A r (sym (ap value_kind own) ∙ idle) forms
@@ -187,12 +188,12 @@ module _ (p : Parts) (t : ℕ) (task : is_task p.scenario t ≡ true) where
             }))
         by_forming f own g twin r None forms =
             let q : (f.receipt ≡ None) × (f.claim ≡ Claiming.Nothing) × (f.lets ≡ []) = quiet f (sym (ap value_kind own) ∙ idle) in
-            let e : frame_next (tasked m t).names g (current p.scenario m t) g.receipt ≡ None =
-            nothing_next (tasked m t).names g (current p.scenario m t)
+            let e : frame_next p.scenario.version (tasked m t).names g (current p.scenario m t) g.receipt ≡ None =
+            nothing_next p.scenario.version (tasked m t).names g (current p.scenario m t)
             (no_receipt g.receipt (subst (λ o. Optional IsReceipt o g.receipt) q.0 r.receipt))
             (no_claim (plain_of p) g.claim (subst (λ x. IsClaim (plain_of p) x g.claim) q.1 r.claim))
             (no_lets (plain_of p) g.lets (subst (λ ls. Pairwise (IsLet (plain_of p)) ls g.lets) q.2 r.lets))
-            (no_map g.forming (subst (λ o. Optional (IsMap (plain_of p)) o g.forming) forms r.forming)) in
+            (r.answered ∙ ap (λ o. not (is_some o)) forms) in
             absurd (no_kind None (sym e ∙ (sym (ap (task_next p.scenario (phases_in m.past) t (tasked m t)) twin) ∙ kind)))
 
         by_frame : (o : Option Frame) → frame_of p.frames t ≡ o → A
@@ -220,19 +221,19 @@ module _ (p : Parts) (t : ℕ) (task : is_task p.scenario t ≡ true) where
         by : (f2 : Frame) (bytes2 : List ℕ) → f2 ≡ f → bytes2 ≡ bytes → (v : Indices) (g : machine.Frame) (w : Handles) → Works m f2 v g w bytes2 → A
         by f2 bytes2 e q v g w z = h v g w (subst (λ x. Works m x v g w bytes) e (subst (λ b. Works m f2 v g w b) q z))
 
-    some_left : (names : List machine.Named) (place : ℕ) (bytes : List ℕ) → first_next names (first_of (drop place bytes)) ≡ kinds.Work → place ≤ length bytes
-    some_left names place bytes e = by (length (drop place bytes) == 0) refl
+    some_left : (version : ℕ) (names : List machine.Named) (place : ℕ) (bytes : List ℕ) → first_next version names (first_of (drop place bytes)) ≡ kinds.Work → place ≤ length bytes
+    some_left version names place bytes e = by (length (drop place bytes) == 0) refl
       where
         not_placed : (k : Kind) → kinds.Place ≡ kinds.Work → ⊥
         not_placed k e = cc
 
         by : (b : Bool) → (length (drop place bytes) == 0) ≡ b → place ≤ length bytes
-        by true q = let z : first_of (drop place bytes) ≡ First.End = rw q refl in absurd (not_placed kinds.Place (sym (ap (first_next names) z) ∙ e))
+        by true q = let z : first_of (drop place bytes) ≡ First.End = rw q refl in absurd (not_placed kinds.Place (sym (ap (first_next version names) z) ∙ e))
         by false q = let l : length (drop place bytes) ≡ length bytes - place = length-drop place bytes in let n : 0 < length (drop place bytes) = grind (arith, common_steps) in omega (arith, l, n)
 
     pub inside : Reached p → (f : Frame) (bytes : List ℕ) → frame_of p.frames t ≡ Some f → nth_call p.scenario t (begun_of p.frames t) ≡ Some (calls.Create bytes) → f.at ≤ length bytes
     inside r f bytes own call = reached_state p _ r (λ m st. works_with m _ st f bytes own call (λ v g w z.
-        let a : g.at_byte ≤ length bytes = some_left (tasked m t).names g.at_byte bytes z.first in
+        let a : g.at_byte ≤ length bytes = some_left p.scenario.version (tasked m t).names g.at_byte bytes z.first in
         let b : f.at ≡ g.at_byte = z.frames.at_byte in
         omega (arith, a, b)))
 

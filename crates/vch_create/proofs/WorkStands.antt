@@ -11,13 +11,13 @@ use Rattle.vch_value.specs.Picture.{Picture}
 use Rattle.vch_model.specs.declared.call.Call.TheVariants as calls
 use Rattle.vch_model.specs.declared.lists.Scenario.{Scenario}
 use Rattle.vch_machine.specs.State as machine
-use Rattle.vch_machine.specs.State.{of_key, Handles, Place, Machine, Tasked, tasked, is_empty}
+use Rattle.vch_base.specs.Keyed.{of_key}
+use Rattle.vch_machine.specs.State.{Handles, Place, Machine, Tasked, tasked, is_empty}
 use Rattle.vch_machine.specs.Frames as frames
 use Rattle.vch_machine.specs.Working.{Worked}
 use Rattle.vch_machine.specs.Next.{current}
 use Rattle.vch_legal.specs.Facts.{Fits}
-use Rattle.vch_legal.proofs.Forming.{rest_of}
-use Rattle.vch_legal.proofs.Creates.{behind}
+use Rattle.vch_legal.proofs.CallerLemmas.{rest_of, record_rest}
 use Rattle.vch_state.specs.declared.frame.Frame.{Frame}
 use Rattle.vch_state.specs.declared.frame.Claiming.{Claiming}
 use Rattle.vch_state.specs.declared.frame.KeyIndex.{KeyIndex}
@@ -29,11 +29,7 @@ use Rattle.vch_state.specs.Pictures.{picture_of}
 use Rattle.vch_state.specs.Bounds.{rank, makes, open_of, TaskSpent}
 use Rattle.vch_state.specs.Stands.{StandsFor, KeyStands}
 use Rattle.vch_state.specs.Moves.{with_values, with_frame_at}
-use Rattle.vch_state.proofs.Stable.{task_stays, map_stays}
-use Rattle.vch_state.proofs.Replaced.{held_before, held_behind, receipts_before, receipts_behind, claims_before, claims_behind, picture_now, picture_then, shape_then, framed}
-use Rattle.vch_state.proofs.Spending.{Paid, paid_then, unanswered_then, begun_then, open_then}
-use Rattle.vch_state.proofs.Keys.{each_key, cells_same}
-use Rattle.vch_state.proofs.FrameParts.{frames_of}
+use Rattle.vch_state.proofs.CallerLemmas.{task_stays, map_stays, held_before, held_behind, receipts_before, receipts_behind, claims_before, claims_behind, picture_now, picture_then, shape_then, framed, Paid, paid_then, unanswered_then, begun_then, open_then, each_key, cells_same, frames_of}
 use Rattle.vch_create.proofs.Quiet.{forming_frame, forming_machine}
 use Rattle.vch_create.proofs.WorkMaps.{OnlyUser, Related, P}
 
@@ -66,17 +62,17 @@ module _ (sc : Scenario) (c : Plain) (m : Machine) (t : ℕ) (positive : 0 < t) 
   P_of only z = P c only kept_now (held_before keys.User c m t) (held_behind keys.User c m t) (receipts_before keys.User c m t ++ receipts_behind keys.User c m t) (claims_before keys.User c m t ++ claims_behind keys.User c m t) z
 
   pub picture_is : (only : OnlyUser c) → picture_of keys.User c m ≡ P_of only (record { forming = w; left = [] })
-  picture_is only = picture_now keys.User c m t s.shape.long inside ∙ rw (own, twin) refl
+  picture_is only = picture_now keys.User c m t positive s.shape.long inside ∙ rw (own, twin) refl
 
   module _ (only : OnlyUser c) (e2 : Entries) (v2 : Indices) (ls : List KeyIndex) (next : ℕ) (z : Worked)
-      (few : length z.left ≤ 6) (next_is : next ≡ place + size)
+      (few : length z.left ≤ 8) (next_is : next ≡ place + size)
       (related : Related c (record { entries = e2; map = v2; lets = ls }) z)
       (counts : picture.Stands (P_of only z) e2 kept_now) where
     abbrev pub F2 : Frame
     F2 = record { forming = Some v2; at = next; key = key; receipt = None; lets = ls; claim = Claiming.Nothing }
 
     abbrev pub G2 : machine.Frame
-    G2 = record { forming = Some z.forming; at_byte = place + size; keys = ks; receipt = None; lets = z.left; claim = None }
+    G2 = record { answered = false; forming = Some z.forming; at_byte = place + size; keys = ks; receipt = None; lets = z.left; claim = None }
 
     abbrev pub then_parts : Plain
     then_parts = with_values (with_frame_at c t (Some F2)) keys.User e2 kept_now
@@ -100,7 +96,7 @@ module _ (sc : Scenario) (c : Plain) (m : Machine) (t : ℕ) (positive : 0 < t) 
     forms_next =
         let was : FormsUser (Some (calls.Create bytes)) at (Some v) = subst (λ o. FormsUser o at (Some v)) create old_frame.forms in
         let here : AsksUserOnly (drop place bytes) = subst (λ n. AsksUserOnly (drop n bytes)) old_frame.at_byte was in
-        let gone : drop next bytes ≡ rest = ap (λ n. drop n bytes) next_is ∙ behind place bytes r rest first in
+        let gone : drop next bytes ≡ rest = ap (λ n. drop n bytes) next_is ∙ record_rest bytes place r rest first in
         subst (λ o. FormsUser o next (Some v2)) (sym create) (subst AsksUserOnly (sym gone) (user_rest (drop place bytes) r rest first here))
 
     keys_next : keys_left (current sc m t) (Some v2) key ≡ ks
@@ -109,6 +105,7 @@ module _ (sc : Scenario) (c : Plain) (m : Machine) (t : ℕ) (positive : 0 < t) 
     new_frame : IsFrame then_parts (current sc m t) F2 G2
     new_frame = record {
       forming = map_stays c then_parts stable refl v2 z.forming related.map;
+      answered = refl;
       at_byte = next_is;
       keys_ = keys_next;
       receipt = tt;
@@ -126,7 +123,7 @@ module _ (sc : Scenario) (c : Plain) (m : Machine) (t : ℕ) (positive : 0 < t) 
         (record { names = old_task.names; next = old_task.next; queue = old_task.queue; begun = old_task.begun; frame = new_frame })
 
     picture_after : picture_of keys.User then_parts then_machine ≡ P_of only z
-    picture_after = picture_then keys.User c m t s.shape.long inside then_parts then_machine (Some F2) (Some G2) refl refl (cells_same c then_parts keys.User (λ i. all_handles i keys.User) c.table)
+    picture_after = picture_then keys.User c m t positive s.shape.long inside then_parts then_machine (Some F2) (Some G2) refl refl (cells_same c then_parts keys.User (λ i. all_handles i keys.User) c.table)
 
     receipts_same : length (picture_of keys.User then_parts then_machine).receipts ≡ length (picture_of keys.User c m).receipts
     receipts_same = ap (λ (p : Picture). length p.receipts) picture_after ∙ sym (ap (λ (p : Picture). length p.receipts) (picture_is only))
@@ -146,7 +143,7 @@ module _ (sc : Scenario) (c : Plain) (m : Machine) (t : ℕ) (positive : 0 < t) 
 
     left_bytes : length (drop (place + size) bytes) + 1 ≤ length (drop place bytes)
     left_bytes =
-        let a : length (drop (place + size) bytes) ≡ length rest = ap length (behind place bytes r rest first) in
+        let a : length (drop (place + size) bytes) ≡ length rest = ap length (record_rest bytes place r rest first) in
         let b : length rest < length (drop place bytes) = (rest_of (drop place bytes) r rest first).shorter in
         omega (arith, a, b)
 

@@ -13,4 +13,4 @@ use Rattle.vch_create.specs.Works.{Reads, voucher_of}
 abbrev pub ReadsNext : Parts → ℕ → Result Record Code → Type 0
 ReadsNext p t result =
     (f : Frame) (bytes : List ℕ) → frame_of p.frames t ≡ Some f → nth_call p.scenario t (begun_of p.frames t) ≡ Some (calls.Create bytes)
-    → Reads (voucher_of p t) bytes f.at result
+    → Reads p.scenario.version (voucher_of p t) bytes f.at result

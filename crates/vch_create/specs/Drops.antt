@@ -1,5 +1,6 @@
 -- How a task gives up a name.
-use Rattle.std.specs.Prelude.{◌≡◌, ℕ, ◌==◌, Bool, true, false, if◌then◌else◌, List, [], Option, Some, None, pos}
+use Rattle.std.specs.Prelude.{◌≡◌, ℕ, ◌==◌, Bool, true, false, if◌then◌else◌, List, [], Option, Some, None}
+use Rattle.vch_base.specs.declared.codes.TheConstants.{KERN_INVALID_NAME}
 use Rattle.vch_base.specs.Slots.{slot_at, Writes}
 use Rattle.vch_table.specs.declared.table.Cell.{Cell}
 use Rattle.vch_table.specs.Vouchers.{less, given_back}
@@ -32,7 +33,7 @@ Drops (Some x) old new given = (given.was_there ≡ true) × LosesLast (x.refere
 
 -- the answer to a drop
 abbrev pub drop_answer : Bool → Reply
-drop_answer was_there = if was_there then replies.Done else refused (pos 15)
+drop_answer was_there = if was_there then replies.Done else refused KERN_INVALID_NAME
 
 -- what is to be let go of where a voucher came out
 abbrev pub orphan_items : Option Indices → List KeyIndex

@@ -1,7 +1,8 @@
 -- The map that a frame forms, and its indices as what is to be let go of.
-use Rattle.std.specs.Prelude.{ℕ, Bool, false, List, [], ◌∷◌, ◌++◌, Option, Some, None, is_some}
+use Rattle.std.specs.Prelude.{ℕ, Bool, false, List, [], ◌∷◌, Option, Some, None, is_some}
 use Rattle.vch_base.specs.declared.key.Key.{Key}
-use Rattle.vch_base.specs.declared.key.Key.TheVariants as keys
+use Rattle.vch_base.specs.Keys.{every_key}
+use Rattle.std.specs.List.{flat_map}
 use Rattle.vch_state.specs.declared.frame.Frame.{Frame}
 use Rattle.vch_state.specs.declared.frame.KeyIndex.{KeyIndex}
 use Rattle.vch_state.specs.Shape.{Indices, index_of}
@@ -18,4 +19,4 @@ item k (Some i) = record { key = k; index = i } ∷ []
 
 -- the indices of a map, in rising order of their keys
 abbrev pub items : Indices → List KeyIndex
-items v = item keys.Importance (index_of keys.Importance v) ++ (item keys.Bank (index_of keys.Bank v) ++ item keys.User (index_of keys.User v))
+items v = flat_map (λ k. item k (index_of k v)) every_key

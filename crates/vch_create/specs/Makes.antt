@@ -21,7 +21,8 @@ use Rattle.vch_model.specs.declared.call.Call.TheVariants as calls
 use Rattle.vch_model.specs.declared.entry.Entry.{Entry}
 use Rattle.vch_model.specs.declared.entry.Entry.TheVariants as entries
 use Rattle.vch_machine.specs.State as machine
-use Rattle.vch_machine.specs.State.{of_key, Handles, Machine, tasked}
+use Rattle.vch_base.specs.Keyed.{of_key}
+use Rattle.vch_machine.specs.State.{Handles, Machine, tasked}
 use Rattle.vch_machine.specs.Making.{asked_by, make_done}
 use Rattle.vch_machine.specs.Next.{current, nth_call}
 use Rattle.vch_machine.specs.Events.{event}
@@ -113,4 +114,4 @@ pub record Answers (t : ℕ) (result : Result Made GetFault) (old new : Parts) :
 pub record IsLoss (t : ℕ) (old new : Parts) : Type 0 where
   pub scenario : new.scenario ≡ old.scenario
   pub stands : (m : Machine) → Stands old m → (f : machine.Frame) → (tasked m t).frame ≡ Some f → (w : Handles) → f.forming ≡ Some w → (call : Call) → current old.scenario m t ≡ Some call
-      → event old.scenario false m t ≡ Some (make_done m t f w call keys.User (Ok None)) → Stands new (make_done m t f w call keys.User (Ok None))
+      → event old.scenario false m t ≡ Some (make_done old.scenario.version m t f w call keys.User (Ok None)) → Stands new (make_done old.scenario.version m t f w call keys.User (Ok None))

@@ -9,7 +9,7 @@ use Rattle.vch_machine.specs.Next.{current}
 use Rattle.vch_state.specs.declared.parts.Parts.{Parts}
 use Rattle.vch_state.specs.Reached.{Stands}
 
--- a code other than that of want of memory
+-- a code other than that of being out of memory
 abbrev pub IsOther : Code → Type 0
 IsOther code = code.number ≢ KERN_RESOURCE_SHORTAGE
 

@@ -1,9 +1,12 @@
 -- A record that asks no manager, by indices: which keys of the map it changes, and to what.
-use Rattle.std.specs.Prelude.{◌≡◌, ℕ, ◌+◌, ◌<◌, ◌≤◌, ◌^◌, ◌==◌, ◌||◌, not, if◌then◌else◌, List, ◌++◌, length, drop, Option, Some, None, Result, Ok, Err, IfSome, IsSome, IfOk, IfErr, pos}
+use Rattle.std.specs.Prelude.{◌≡◌, ℕ, ◌+◌, ◌<◌, ◌≤◌, ◌^◌, ◌==◌, not, if◌then◌else◌, List, [], ◌∷◌, ◌++◌, length, drop, Option, Some, None, Result, Ok, Err, IfSome, IsSome, IfOk, IfErr, ℤ}
 use Rattle.vch_base.specs.declared.fault.Code.{Code}
 use Rattle.vch_base.specs.declared.key.Key.{Key}
-use Rattle.vch_base.specs.declared.key.Key.TheVariants as keys
-use Rattle.vch_base.specs.Keys.{number_of, key_of}
+use Rattle.vch_base.specs.Keys.{number_of, key_of, managed}
+use Rattle.vch_base.specs.declared.key.TheConstants.{ALL_KEYS}
+use Rattle.vch_base.specs.declared.commands.TheConstants as commands
+use Rattle.vch_base.specs.declared.codes.TheConstants.{KERN_INVALID_ARGUMENT, KERN_NO_ACCESS, KERN_INVALID_CAPABILITY}
+use Rattle.vch_model.specs.Eval.{is_core_command, is_plain_command}
 use Rattle.vch_base.specs.Managers.{Kept, count}
 use Rattle.vch_base.specs.Slots.{slot_at}
 use Rattle.vch_recipe.specs.Recipes.{First, One, first_of}
@@ -31,52 +34,53 @@ use Rattle.vch_create.specs.Formed.{item}
 
 -- What a record does.
 
-abbrev pub code : ℕ → Code
-code n = record { number = pos n }
+abbrev pub code : ℤ → Code
+code n = record { number = n }
 
 abbrev pub one_key : Option Key → Option AtKeys
 one_key None = None
 one_key (Some k) = Some (at.One k)
 
 -- the keys that a record is about, or none where its key has no manager
-abbrev pub keys_named : ℕ → Option AtKeys
-keys_named n = if n == 4294967295 then Some at.All else one_key (key_of n)
+abbrev pub keys_named : ℕ → ℕ → Option AtKeys
+keys_named version n = if n == ALL_KEYS then Some at.All else one_key (key_of version n)
 
 abbrev pub change_at : Option AtKeys → Deed → Result (Option Change) Code
-change_at None deed = Err (code 4)
+change_at None deed = Err (code KERN_INVALID_ARGUMENT)
 change_at (Some keys) deed = Ok (Some (record { keys = keys; deed = deed }))
 
 -- COPY, which does nothing without a previous voucher
-abbrev pub copy_at : ℕ → Option Indices → Result (Option Change) Code
-copy_at key None = Ok None
-copy_at key (Some v) = change_at (keys_named key) (deeds.Copy v)
+abbrev pub copy_at : ℕ → ℕ → Option Indices → Result (Option Change) Code
+copy_at version key None = Ok None
+copy_at version key (Some v) = change_at (keys_named version key) (deeds.Copy v)
 
 -- what a record with its previous voucher does to the map, or a code
-abbrev pub change_of : ℕ → ℕ → ℕ → Option Indices → Result (Option Change) Code
-change_of command key size previous =
-    if (command == 3) || ((command == 4) || (command == 5)) then Err (code 8)
-    else if (command == 0) || ((command == 1) || (command == 2)) then (
-    if not (size == 0) then Err (code 4)
-    else if command == 0 then Ok None
-    else if command == 1 then copy_at key previous
-    else change_at (keys_named key) (deeds.Remove previous))
-    else Err (code 4)
+abbrev pub change_of : ℕ → ℕ → ℕ → ℕ → Option Indices → Result (Option Change) Code
+change_of version command key size previous =
+    if is_core_command command then Err (code KERN_NO_ACCESS)
+    else if is_plain_command command then (
+    if not (size == 0) then Err (code KERN_INVALID_ARGUMENT)
+    else if command == commands.NOOP then Ok None
+    else if command == commands.COPY then copy_at version key previous
+    else change_at (keys_named version key) (deeds.Remove previous))
+    else Err (code KERN_INVALID_ARGUMENT)
 
 -- with a previous voucher that was looked for
-abbrev pub change_found : ℕ → ℕ → ℕ → Option Indices → Result (Option Change) Code
-change_found command key size None = Err (code 20)
-change_found command key size (Some v) = change_of command key size (Some v)
+abbrev pub change_found : ℕ → ℕ → ℕ → ℕ → Option Indices → Result (Option Change) Code
+change_found version command key size None = Err (code KERN_INVALID_CAPABILITY)
+change_found version command key size (Some v) = change_of version command key size (Some v)
 
 -- with the name of a previous voucher, where 0 names none
-abbrev pub change_named : (ℕ → Option Indices) → ℕ → ℕ → ℕ → ℕ → Result (Option Change) Code
-change_named names command key size name = if name == 0 then change_of command key size None else change_found command key size (names name)
+abbrev pub change_named : ℕ → (ℕ → Option Indices) → ℕ → ℕ → ℕ → ℕ → Result (Option Change) Code
+change_named version names command key size name =
+    if name == 0 then change_of version command key size None else change_found version command key size (names name)
 
 -- the first record of what is left of the bytes
-abbrev pub first_change : (ℕ → Option Indices) → First → Result (Option Change) Code
-first_change names (One r rest) = change_named names r.command r.key (length r.content) r.previous
-first_change names First.End = Err (code 4)
-first_change names (First.HeaderCut left) = Err (code 4)
-first_change names (First.ContentCut wanted left) = Err (code 4)
+abbrev pub first_change : ℕ → (ℕ → Option Indices) → First → Result (Option Change) Code
+first_change version names (One r rest) = change_named version names r.command r.key (length r.content) r.previous
+first_change version names First.End = Err (code KERN_INVALID_ARGUMENT)
+first_change version names (First.HeaderCut left) = Err (code KERN_INVALID_ARGUMENT)
+first_change version names (First.ContentCut wanted left) = Err (code KERN_INVALID_ARGUMENT)
 
 -- The voucher of a name.
 
@@ -102,10 +106,10 @@ abbrev pub NamesAreThere : Parts → ℕ → Type 0
 NamesAreThere p t = (name : ℕ) → IsThere p.vouchers (looked (by_name (names_of p.spaces t).names name))
 
 -- the answer is what the first of some bytes does, and where the next record stands
-pub record Reads (names : ℕ → Option Indices) (bytes : List ℕ) (place : ℕ) (result : Result Record Code) : Type 0 where
-  pub done : IfOk result (λ r. first_change names (first_of (drop place bytes)) ≡ Ok r.change)
+pub record Reads (version : ℕ) (names : ℕ → Option Indices) (bytes : List ℕ) (place : ℕ) (result : Result Record Code) : Type 0 where
+  pub done : IfOk result (λ r. first_change version names (first_of (drop place bytes)) ≡ Ok r.change)
   pub next : IfOk result (λ r. r.next ≡ place + size_of (first_of (drop place bytes)))
-  pub refused : IfErr result (λ c. first_change names (first_of (drop place bytes)) ≡ Err c)
+  pub refused : IfErr result (λ c. first_change version names (first_of (drop place bytes)) ≡ Err c)
 
 -- What becomes of the map.
 
@@ -159,16 +163,19 @@ abbrev pub Changes : Workspace → Key → Option (Option ℕ) → Workspace →
 Changes old k None new = new ≡ old
 Changes old k (Some i) new = Puts old k i new
 
--- a key is changed, or all of them in rising order
-abbrev pub ChangesAt : Workspace → AtKeys → Deed → Workspace → Type 0
-ChangesAt old (at.One k) deed new = Changes old k (becomes deed old.map k) new
-ChangesAt old at.All deed new =
-    (a b : Workspace) × Changes old keys.Importance (becomes deed old.map keys.Importance) a
-    × Changes a keys.Bank (becomes deed a.map keys.Bank) b × Changes b keys.User (becomes deed b.map keys.User) new
+-- each key of a list is changed, one after the other
+abbrev pub ChangesEach : List Key → Workspace → Deed → Workspace → Type 0
+ChangesEach [] old deed new = new ≡ old
+ChangesEach (k ∷ ks) old deed new = (mid : Workspace) × Changes old k (becomes deed old.map k) mid × ChangesEach ks mid deed new
 
-abbrev pub ChangesBy : Workspace → Option Change → Workspace → Type 0
-ChangesBy old None new = new ≡ old
-ChangesBy old (Some x) new = ChangesAt old x.keys x.deed new
+-- a key is changed, or all managed ones of the version in rising order
+abbrev pub ChangesAt : ℕ → Workspace → AtKeys → Deed → Workspace → Type 0
+ChangesAt version old (at.One k) deed new = Changes old k (becomes deed old.map k) new
+ChangesAt version old at.All deed new = ChangesEach (managed version) old deed new
+
+abbrev pub ChangesBy : ℕ → Workspace → Option Change → Workspace → Type 0
+ChangesBy version old None new = new ≡ old
+ChangesBy version old (Some x) new = ChangesAt version old x.keys x.deed new
 
 -- so many references may still be taken of each entry of a voucher
 abbrev pub MayShare : ℕ → Entries → Option ℕ → Type 0
@@ -180,4 +187,4 @@ CanDo n entries (deeds.Remove v) = Unit {0}
 
 abbrev pub CanChange : Entries → Option Change → Type 0
 CanChange entries None = Unit {0}
-CanChange entries (Some x) = CanDo 3 entries x.deed
+CanChange entries (Some x) = CanDo 4 entries x.deed

@@ -1,6 +1,7 @@
 ghost use Rattle.std.specs.Prelude.{◌≡◌, ◌≤◌, ◌<◌, None, Some, IfOk, OnOk, IsTrue, length};
 ghost use Rattle.vch_base.specs.declared.kind.Kind.TheVariants as kinds;
 ghost use Rattle.vch_model.specs.Lines.{is_task};
+ghost use Rattle.vch_model.specs.UserOnly.{IsUserOnly};
 ghost use Rattle.vch_state.specs.Plain.{frame_of};
 ghost use Rattle.vch_state.specs.Reached.{Reached, IsNext, value_kind};
 ghost use Rattle.vch_create.specs.Makes.{Answers, HasRoom, IsMadeEntry, IsRoomier};
@@ -17,7 +18,7 @@ use vch_value::Made;
 ///
 /// # Errors
 ///
-/// Want of memory alone. What room was made stays.
+/// Out of memory alone. What room was made stays.
 fn make_room(parts: &mut Parts) -> Result<(), NoMemory>
     requires { Reached parts.old }
     ensures roomier { IsRoomier parts.old parts.new }
@@ -33,7 +34,7 @@ fn make_room(parts: &mut Parts) -> Result<(), NoMemory>
 ///
 /// # Errors
 ///
-/// Want of memory alone.
+/// Out of memory alone.
 fn made_entry(parts: &Parts, task: u32) -> Result<Entry, NoMemory>
     requires reached { Reached parts.now }
     requires task { IsTrue (is_task parts.now.scenario task) }
@@ -54,7 +55,7 @@ fn made_entry(parts: &Parts, task: u32) -> Result<Entry, NoMemory>
 ///
 /// # Errors
 ///
-/// Want of memory alone. What room was made stays.
+/// Out of memory alone. What room was made stays.
 pub fn prepare(parts: &mut Parts, task: u32) -> Result<Entry, NoMemory>
     requires reached { Reached parts.old }
     requires task { IsTrue (is_task parts.old.scenario task) }
@@ -73,10 +74,11 @@ pub fn prepare(parts: &mut Parts, task: u32) -> Result<Entry, NoMemory>
 ///
 /// # Errors
 ///
-/// The manager's refusal, or want of memory. More places for entries may be there then, and nothing else changed.
+/// The manager's refusal, or out of memory. More places for entries may be there then, and nothing else changed.
 pub fn ask(parts: &mut Parts, task: u32) -> Result<Made, GetFault>
     requires reached { Reached parts.old }
     requires task { IsTrue (is_task parts.old.scenario task) }
+    requires built { IsUserOnly parts.old.scenario }
     requires next { IsNext parts.old task (Some kinds.Make) }
     requires idle { value_kind (frame_of parts.old.frames task) ≡ None }
     ensures { Answers task result parts.old parts.new }

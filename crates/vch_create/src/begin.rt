@@ -12,6 +12,8 @@ ghost use Rattle.vch_create.specs.Begins.{IsCreateOf, is_answered, answer, deman
 use crate::give_up::begin_drop;
 use crate::refuse::created;
 use vch_base::Code;
+use vch_base::codes::MIG_ARRAY_TOO_LARGE;
+use vch_base::limits::ARRAY_BYTES;
 use vch_model::{Call, Reply};
 use vch_state::{Claiming, Frame, Lets, Parts};
 use vch_table::Indices;
@@ -20,9 +22,9 @@ use vch_table::Indices;
 fn answer(size: usize) -> Reply
     ensures { result ≡ answer size }
 {
-    if size > 5120 {
+    if size > ARRAY_BYTES {
         return Reply::Refused {
-            code: Code::of(-307),
+            code: Code::of(MIG_ARRAY_TOO_LARGE),
         };
     }
     Reply::Created { name: 0 }
@@ -81,7 +83,7 @@ fn begin_create(parts: &mut Parts, task: u32, size: usize)
     requires call { IsCreateOf size (nth_call parts.old.scenario task (begun_of parts.old.frames task + 1)) }
     ensures { Follows kinds.Begin task parts.old parts.new }
 {
-    if size == 0 || size > 5120 {
+    if size == 0 || size > ARRAY_BYTES {
         answer_create(parts, task, size);
     } else {
         form_create(parts, task, size);

@@ -1,4 +1,4 @@
-ghost use Rattle.std.specs.Prelude.{◌≡◌, ◌≤◌, length};
+ghost use Rattle.std.specs.Prelude.{◌≡◌, ◌⊎◌, ◌≤◌, length};
 ghost use Rattle.vch_machine.specs.Naming.{same_handle};
 ghost use Rattle.vch_state.specs.Shape.{IsKeyed};
 ghost use Rattle.vch_create.specs.Works as works;
@@ -10,7 +10,7 @@ use vch_entry::EntryTable;
 use vch_state::Lets;
 use vch_table::Indices;
 
-/// The keys that a record is about: one, or all that have a manager.
+/// The keys that a record is about: one, or all that have a manager in the version.
 #[derive(Clone, Copy, Debug, PartialEq, Eq)]
 pub enum AtKeys {
     One { key: Key },
@@ -104,13 +104,15 @@ fn change_keys(
     entries: &mut EntryTable,
     map: &mut Indices,
     lets: &mut Lets,
+    version: u32,
     keys: AtKeys,
     deed: &Deed,
 )
-    requires shares { CanDo 3 entries.old deed.now }
+    requires version { (version ≡ 1) ⊎ (version ≡ 2) }
+    requires shares { CanDo 4 entries.old deed.now }
     requires keyed { IsKeyed map.old }
-    requires room { length lets.old ≤ 9 }
-    ensures { ChangesAt (record { entries = entries.old; map = map.old; lets = lets.old }) keys deed.now (record { entries = entries.new; map = map.new; lets = lets.new }) }
+    requires room { length lets.old ≤ 8 }
+    ensures { ChangesAt version (record { entries = entries.old; map = map.old; lets = lets.old }) keys deed.now (record { entries = entries.new; map = map.new; lets = lets.new }) }
 {
     match keys {
         AtKeys::One { key } => change_key(entries, map, lets, key, deed),
@@ -118,6 +120,9 @@ fn change_keys(
             change_key(entries, map, lets, Key::Importance, deed);
             change_key(entries, map, lets, Key::Bank, deed);
             change_key(entries, map, lets, Key::User, deed);
+            if version == 2 {
+                change_key(entries, map, lets, Key::Test, deed);
+            }
         }
     }
 }
@@ -128,14 +133,16 @@ pub fn change_map(
     entries: &mut EntryTable,
     map: &mut Indices,
     lets: &mut Lets,
+    version: u32,
     change: &Option<Change>,
 )
+    requires version { (version ≡ 1) ⊎ (version ≡ 2) }
     requires shares { CanChange entries.old change.now }
     requires keyed { IsKeyed map.old }
-    requires room { length lets.old ≤ 9 }
-    ensures { ChangesBy (record { entries = entries.old; map = map.old; lets = lets.old }) change.now (record { entries = entries.new; map = map.new; lets = lets.new }) }
+    requires room { length lets.old ≤ 8 }
+    ensures { ChangesBy version (record { entries = entries.old; map = map.old; lets = lets.old }) change.now (record { entries = entries.new; map = map.new; lets = lets.new }) }
 {
     if let Some(change) = change {
-        change_keys(entries, map, lets, change.keys, &change.deed);
+        change_keys(entries, map, lets, version, change.keys, &change.deed);
     }
 }

@@ -34,7 +34,7 @@ fn call_event(parts: &mut Parts, task: u32, kind: Kind)
 /// Carries out the next event of a task whose frame has nothing to do for a value: it begins a `create` or a `drop`, or
 /// carries a `create` on. It answers which kind of event it was.
 ///
-/// Want of memory answers the call with the code 6, which the history says, and is never an answer of this function.
+/// Out of memory answers the call with the code 6, which the history says, and is never an answer of this function.
 pub fn create_event(core: &mut Core, task: u32) -> Kind
     requires built { IsUserOnly core.old.scenario }
     requires task { IsTrue (is_task core.old.scenario task) }

@@ -2,7 +2,8 @@ ghost use Rattle.std.specs.Prelude.{◌≡◌, ◌≤◌, ◌<◌, ◌+◌, ◌+
 ghost use Rattle.vch_base.specs.declared.key.Key.TheVariants as keys;
 ghost use Rattle.vch_base.specs.declared.kind.Kind.TheVariants as kinds;
 ghost use Rattle.vch_model.specs.Lines.{is_task};
-ghost use Rattle.vch_machine.specs.State.{with_key};
+ghost use Rattle.vch_model.specs.UserOnly.{IsUserOnly};
+ghost use Rattle.vch_base.specs.Keyed.{with_key};
 ghost use Rattle.vch_state.specs.Plain.{frame_of, with_frame_of};
 ghost use Rattle.vch_state.specs.Reached.{Reached, IsNext, MayFollow, value_kind};
 ghost use Rattle.vch_create.specs.Makes.{HasRoom, IsLoss, IsMadeEntry};
@@ -19,6 +20,7 @@ use vch_value::{Made, Receipt};
 fn lose(parts: &mut Parts, task: u32)
     requires reached { Reached parts.old }
     requires task { IsTrue (is_task parts.old.scenario task) }
+    requires built { IsUserOnly parts.old.scenario }
     requires next { IsNext parts.old task (Some kinds.Make) }
     requires idle { value_kind (frame_of parts.old.frames task) ≡ None }
     ensures { IsLoss task parts.old parts.new }
@@ -70,6 +72,7 @@ fn give_receipt(parts: &mut Parts, task: u32, receipt: Receipt)
 fn go_on(parts: &mut Parts, task: u32, entry: Entry)
     requires reached { Reached parts.old }
     requires task { IsTrue (is_task parts.old.scenario task) }
+    requires built { IsUserOnly parts.old.scenario }
     requires next { IsNext parts.old task (Some kinds.Make) }
     requires idle { value_kind (frame_of parts.old.frames task) ≡ None }
     requires room { HasRoom parts.old }
@@ -99,7 +102,7 @@ fn go_on(parts: &mut Parts, task: u32, entry: Entry)
 }
 
 /// Make: the record at the place of the task's create asks the manager of user data. A refusal answers the call; without a
-/// value the map loses the key; a value gives a receipt, and a Made entry where it is fresh. Want of memory refuses the call
+/// value the map loses the key; a value gives a receipt, and a Made entry where it is fresh. Out of memory refuses the call
 /// with 6.
 ///
 /// It takes the time of the manager's answer, and of a look at the task's names, all frames and the number of calls of each
@@ -107,6 +110,7 @@ fn go_on(parts: &mut Parts, task: u32, entry: Entry)
 pub fn make(parts: &mut Parts, task: u32)
     requires reached { Reached parts.old }
     requires task { IsTrue (is_task parts.old.scenario task) }
+    requires built { IsUserOnly parts.old.scenario }
     requires next { IsNext parts.old task (Some kinds.Make) }
     requires idle { value_kind (frame_of parts.old.frames task) ≡ None }
     ensures { MayFollow kinds.Make task parts.old parts.new }

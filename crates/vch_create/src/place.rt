@@ -25,7 +25,7 @@ pub struct Given {
 ///
 /// # Errors
 ///
-/// Want of memory alone, which leaves the vouchers and the names as they were.
+/// Out of memory alone, which leaves the vouchers and the names as they were.
 fn give_name(
     vouchers: &mut VoucherTable,
     spaces: &mut Spaces,
@@ -59,7 +59,7 @@ fn give_name(
 
 /// The frame of a create that got its name. Where the voucher was there before, the frame has to let go of it.
 fn ended(mut frame: Frame, map: &Indices, was_there: bool) -> Option<Frame>
-    requires { length frame.lets ≤ 9 }
+    requires { length frame.lets ≤ 8 }
     ensures { result ≡ placed frame map.now was_there }
 {
     frame.forming = None;
@@ -83,7 +83,7 @@ fn map_of(frame: &Option<Frame>) -> Option<Indices>
     Some(map.copy())
 }
 
-/// Place: the voucher that a create formed gets a name of the task, and the call is answered. Where memory is wanted the
+/// Place: the voucher that a create formed gets a name of the task, and the call is answered. Where memory is out the
 /// call is refused with 6. The time is linear in the size of the voucher table and in the number of the task's names.
 pub fn place(parts: &mut Parts, task: u32)
     requires reached { Reached parts.old }

@@ -1,8 +1,10 @@
-ghost use Rattle.std.specs.Prelude.{◌≡◌, ◌≤◌, ◌<◌, length};
+ghost use Rattle.std.specs.Prelude.{◌≡◌, ◌⊎◌, ◌≤◌, ◌<◌, length};
 ghost use Rattle.vch_create.specs.Works as works;
 ghost use Rattle.vch_create.specs.Works.{NamesAreThere, Reads, keys_named};
 
 use crate::change::{AtKeys, Change, Deed};
+use vch_base::codes::{KERN_INVALID_ARGUMENT, KERN_INVALID_CAPABILITY, KERN_NO_ACCESS};
+use vch_base::commands::{AUTO_REDEEM, COPY, NOOP, REMOVE, SEND_PREPROCESS, SET_VALUE_HANDLE};
 use vch_base::{ALL_KEYS, Code, Key};
 use vch_recipe::{Step, next_recipe};
 use vch_state::Parts;
@@ -15,74 +17,72 @@ pub struct Record {
     pub next: usize,
 }
 
-/// The commands of a record that asks no manager. They are the kernel release's.
-const NOTHING: u32 = 0;
+/// The codes of what can't be read, of what a task may not ask for, and of a voucher that is not there.
+pub const INVALID: Code = Code {
+    number: KERN_INVALID_ARGUMENT,
+};
 
-const COPY: u32 = 1;
+const NO_ACCESS: Code = Code {
+    number: KERN_NO_ACCESS,
+};
 
-const REMOVE: u32 = 2;
-
-const SET_VALUE: u32 = 3;
-
-const AUTO_REDEEM: u32 = 4;
-
-const PREPROCESS: u32 = 5;
-
-/// The codes of what can't be read, of what is not built in, and of a voucher that is not there.
-pub const INVALID: Code = Code { number: 4 };
-
-const NOT_BUILT: Code = Code { number: 8 };
-
-const NO_VOUCHER: Code = Code { number: 20 };
+const NO_VOUCHER: Code = Code {
+    number: KERN_INVALID_CAPABILITY,
+};
 
 /// The keys that a number stands for, or nothing where it is no key of a manager.
-fn keys_named(number: u32) -> Option<AtKeys>
-    ensures { result ≡ works.keys_named number }
+fn keys_named(version: u32, number: u32) -> Option<AtKeys>
+    requires { (version ≡ 1) ⊎ (version ≡ 2) }
+    ensures { result ≡ works.keys_named version number }
 {
     if number == ALL_KEYS {
         return Some(AtKeys::All);
     }
-    match Key::of(number) {
+    match Key::of(number, version) {
         Some(key) => Some(AtKeys::One { key }),
         None => None,
     }
 }
 
 /// A deed at the keys of a number.
-fn change_at(key: u32, deed: Deed) -> Result<Option<Change>, Code>
-    ensures { result ≡ works.change_at (keys_named key) deed }
+fn change_at(version: u32, key: u32, deed: Deed) -> Result<Option<Change>, Code>
+    requires { (version ≡ 1) ⊎ (version ≡ 2) }
+    ensures { result ≡ works.change_at (keys_named version key) deed }
 {
-    match keys_named(key) {
+    match keys_named(version, key) {
         Some(keys) => Ok(Some(Change { keys, deed })),
         None => Err(INVALID),
     }
 }
 
 /// A copy, which does nothing without a previous voucher.
-fn copy_at(key: u32, previous: Option<Indices>) -> Result<Option<Change>, Code>
-    ensures { result ≡ works.copy_at key previous }
+fn copy_at(version: u32, key: u32, previous: Option<Indices>) -> Result<Option<Change>, Code>
+    requires { (version ≡ 1) ⊎ (version ≡ 2) }
+    ensures { result ≡ works.copy_at version key previous }
 {
     match previous {
-        Some(from) => change_at(key, Deed::Copy { from }),
+        Some(from) => change_at(version, key, Deed::Copy { from }),
         None => Ok(None),
     }
 }
 
 /// What a record with its previous voucher does, or a code.
 fn change_of(
+    version: u32,
     command: u32,
     key: u32,
     size: usize,
     previous: Option<Indices>,
 ) -> Result<Option<Change>, Code>
-    ensures { result ≡ works.change_of command key size previous }
+    requires { (version ≡ 1) ⊎ (version ≡ 2) }
+    ensures { result ≡ works.change_of version command key size previous }
 {
     match command {
-        SET_VALUE | AUTO_REDEEM | PREPROCESS => Err(NOT_BUILT),
-        NOTHING | COPY | REMOVE if size != 0 => Err(INVALID),
-        NOTHING => Ok(None),
-        COPY => copy_at(key, previous),
-        REMOVE => change_at(key, Deed::Remove { from: previous }),
+        SET_VALUE_HANDLE | AUTO_REDEEM | SEND_PREPROCESS => Err(NO_ACCESS),
+        NOOP | COPY | REMOVE if size != 0 => Err(INVALID),
+        NOOP => Ok(None),
+        COPY => copy_at(version, key, previous),
+        REMOVE => change_at(version, key, Deed::Remove { from: previous }),
         _ => Err(INVALID),
     }
 }
@@ -110,13 +110,14 @@ fn change_named(
 ) -> Result<Option<Change>, Code>
     requires task { (0 < task) × (task ≤ length parts.now.spaces) }
     requires there { NamesAreThere parts.now task }
-    ensures { result ≡ works.change_named (works.voucher_of parts.now task) command key size name }
+    ensures { result ≡ works.change_named parts.now.scenario.version (works.voucher_of parts.now task) command key size name }
 {
+    let version = parts.scenario.version();
     if name == 0 {
-        return change_of(command, key, size, None);
+        return change_of(version, command, key, size, None);
     }
     match voucher_of(parts, task, name) {
-        Some(from) => change_of(command, key, size, Some(from)),
+        Some(from) => change_of(version, command, key, size, Some(from)),
         None => Err(NO_VOUCHER),
     }
 }
@@ -126,7 +127,7 @@ pub fn read_record(parts: &Parts, task: u32, bytes: &[u8], at: usize) -> Result<
     requires task { (0 < task) × (task ≤ length parts.now.spaces) }
     requires there { NamesAreThere parts.now task }
     requires inside { at ≤ length bytes.now }
-    ensures { Reads (works.voucher_of parts.now task) bytes.now at result }
+    ensures { Reads parts.now.scenario.version (works.voucher_of parts.now task) bytes.now at result }
 {
     match next_recipe(bytes, at) {
         Step::One {

@@ -25,12 +25,13 @@ pub fn let_one_go(lets: &mut Lets, map: &Indices, key: Key)
 
 /// Appends the indices of a map, in rising order of their keys.
 pub fn let_go_of(lets: &mut Lets, map: &Indices)
-    requires { length lets.old ≤ 9 }
+    requires { length lets.old ≤ 8 }
     ensures { lets.new ≡ lets.old ++ items map.now }
 {
     let_one_go(lets, map, Key::Importance);
     let_one_go(lets, map, Key::Bank);
     let_one_go(lets, map, Key::User);
+    let_one_go(lets, map, Key::Test);
 }
 
 /// The entry of a create that was answered.
@@ -81,7 +82,7 @@ pub fn refuse(parts: &mut Parts, task: u32, code: Code)
     end_with(parts, task, code)
 }
 
-/// A create that a frame is forming ends for want of memory, as [`refuse`] ends it for another reason.
+/// A create that a frame is forming ends because it is out of memory, as [`refuse`] ends it for another reason.
 pub fn out_of_memory(parts: &mut Parts, task: u32, _cause: NoMemory)
     requires reached { Reached parts.old }
     requires task { IsTrue (is_task parts.old.scenario task) }

@@ -52,6 +52,7 @@ fn carry_out(parts: &mut Parts, task: u32, deed: Record)
         &mut parts.user_entries,
         &mut map,
         &mut frame.lets,
+        parts.scenario.version(),
         &deed.change,
     );
     frame.forming = Some(map);

@@ -4,8 +4,7 @@ use Rattle.std.specs.Prelude.{slice_get}
 use Rattle.vch_recipe.specs.Recipes.{One, first_of}
 use Rattle.vch_recipe.specs.declared.recipe.Recipe.{Recipe}
 use Rattle.vch_model.specs.UserOnly.{AsksUserOnly, Begins, asks_other}
-use Rattle.vch_legal.proofs.Creates.{behind}
-use Rattle.vch_legal.proofs.RecordPlaces.{record_place, asks_behind}
+use Rattle.vch_legal.proofs.CallerLemmas.{record_rest, record_place, asks_behind}
 
 pub asks_more : (b : List ℕ) (r : Recipe) (rest : List ℕ) → first_of b ≡ One r rest → asks_other r ≡ false → AsksUserOnly rest → AsksUserOnly b
 asks_more b r rest e none u [] mid begins s more first = let z : r ≡ s = of_one (sym e ∙ (ap first_of begins ∙ first)) in subst (λ x. asks_other x ≡ false) z none
@@ -34,7 +33,7 @@ asked_more bytes at next r rest first place none a =
     let n = record_place bytes at next r rest a.inside first place in
     record {
       inside = omega (arith, place);
-      to = λ u. a.to (asks_more (drop at bytes) r rest first none (subst AsksUserOnly (ap (λ k. drop k bytes) n ∙ behind at bytes r rest first) u));
+      to = λ u. a.to (asks_more (drop at bytes) r rest first none (subst AsksUserOnly (ap (λ k. drop k bytes) n ∙ record_rest bytes at r rest first) u));
       from = λ u. subst (λ k. AsksUserOnly (drop k bytes)) (sym n) (asks_behind bytes at r rest first (a.from u));
     }
 

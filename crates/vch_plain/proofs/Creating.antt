@@ -1,12 +1,13 @@
 -- One record of a create, from what its parts answer.
 use Rattle.std.proofs.Common.{◌≡◌, ℕ, List, ap, ◌∙◌, subst, Option, Some, None, Result, Err, ℤ}
+use Rattle.vch_base.specs.Keyed.{of_key}
 use Rattle.vch_base.specs.declared.fault.Code.{Code}
 use Rattle.vch_base.specs.declared.key.Key.TheVariants as keys
 use Rattle.vch_base.specs.declared.value.Value.{Value}
 use Rattle.vch_recipe.specs.declared.recipe.Recipe.{Recipe}
 use Rattle.vch_model.specs.Eval.{answer_to}
 use Rattle.vch_machine.specs.Making.{previous_of}
-use Rattle.vch_machine.specs.State.{Handles, Named, of_key, value_at}
+use Rattle.vch_machine.specs.State.{Handles, Named, value_at}
 use Rattle.vch_plain.specs.Creates.{names_at, reply_of, IsGiven}
 use Rattle.vch_plain.specs.Making.{IsMade}
 use Rattle.vch_plain.specs.States.{live_of, user_voucher}

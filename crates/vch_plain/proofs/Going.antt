@@ -1,6 +1,7 @@
 -- How a call goes on, step by step.
-use Rattle.std.proofs.Common.{◌≡◌, ℕ, zero, suc, ◌-◌, ◌<◌, false, not, List, [], ◌∷◌, refl, arith, sym, ap, ◌∙◌, subst, length, map, get_or, Option, Some}
+use Rattle.std.proofs.Common.{◌≡◌, ℕ, zero, suc, ◌≤◌, false, not, List, [], ◌∷◌, refl, arith, sym, ap, ◌∙◌, subst, length, map, get_or, Option, Some}
 use Rattle.std.proofs.Math.ListN.{set}
+use Rattle.vch_base.specs.Tasks.{at_task}
 use Rattle.vch_base.specs.declared.kind.Kind.{Kind}
 use Rattle.vch_model.specs.declared.call.Call.{Call}
 use Rattle.vch_model.specs.declared.lists.Scenario.{Scenario}
@@ -8,6 +9,7 @@ use Rattle.vch_machine.specs.State.{Frame, Tally, Tasked, Machine, idle, tasked}
 use Rattle.vch_machine.specs.Events.{frame_event}
 use Rattle.vch_machine.specs.Frames.{with_frame}
 use Rattle.vch_machine.specs.Next.{nth_call, frame_next}
+use Rattle.vch_legal.proofs.CallerLemmas.{IsAmong}
 use Rattle.vch_plain.specs.States.{state_of, task_of}
 use Rattle.vch_plain.specs.Calls.{Leads, Under, Left, Goes, left_in, phases_of, begins_of}
 use Rattle.vch_plain.specs.declared.state.Plain.{Plain}
@@ -38,28 +40,29 @@ goes_then t call p q r a b d x y = record {
       record { counted = j.counted; leads = leads_then sc (left_in p counted t a) (left_in q i.counted t b) (left_in r j.counted t d) i.leads j.leads };
 }
 
-pub inside : (sc : Scenario) (t : ℕ) (call : Call) (p : Plain) → Under sc t call (phases_of p) (begins_of p) → t - 1 < length p.tasks.items
+pub inside : (sc : Scenario) (t : ℕ) (call : Call) (p : Plain) → Under sc t call (phases_of p) (begins_of p) → IsAmong t p.tasks.items
 inside sc t call p u =
     let b = task_bounds sc t u.task in
-    let b0 = b.0 in let b1 = b.1 in
+    let b1 = b.1 in
     let l = u.long in
     let m : length (begins_of p) ≡ length p.tasks.items = mapped p.tasks.items in
-    omega (arith, b0, b1, l, m)
+    (b.0, omega (arith, b1, l, m))
   where
     mapped : (xs : List Task) → length (map (λ (x : Task). x.begun) xs) ≡ length xs
     mapped [] = refl
     mapped (x ∷ xs) = ap suc (mapped xs)
 
-pub inside_tasks : (p : Plain) (counted : Tally) (t : ℕ) → t - 1 < length p.tasks.items → t - 1 < length (state_of p counted).tasks
-inside_tasks p counted t l = subst (λ n. t - 1 < n) (sym (mapped p.tasks.items)) l
+pub inside_tasks : (p : Plain) (counted : Tally) (t : ℕ) → IsAmong t p.tasks.items → IsAmong t (state_of p counted).tasks
+inside_tasks p counted t l = (l.0, subst (λ n. t ≤ n) (sym (mapped p.tasks.items)) l.1)
   where
     mapped : (xs : List Task) → length (map task_of xs) ≡ length xs
     mapped [] = refl
     mapped (x ∷ xs) = ap suc (mapped xs)
 
 -- the calls begun, in the machine
-pub begun_same : (p : Plain) (counted : Tally) (t : ℕ) → (tasked (state_of p counted) t).begun ≡ get_or (begins_of p) (t - 1) 0
-begun_same p counted t = at p.tasks.items (t - 1)
+pub begun_same : (p : Plain) (counted : Tally) (t : ℕ) → (tasked (state_of p counted) t).begun ≡ at_task (begins_of p) t 0
+begun_same p counted zero = refl
+begun_same p counted (suc i) = at p.tasks.items i
   where
     at : (xs : List Task) (i : ℕ) → (get_or (map task_of xs) i idle).begun ≡ get_or (map (λ (x : Task). x.begun) xs) i 0
     at [] i = refl
@@ -67,7 +70,8 @@ begun_same p counted t = at p.tasks.items (t - 1)
     at (x ∷ xs) (suc i) = at xs i
 
 pub set_twice : (m : Machine) (t : ℕ) (a b : Option Frame) → with_frame (with_frame m t a) t b ≡ with_frame m t b
-set_twice m t a b = ap (λ (tasks : List Tasked). record m { tasks = tasks }) (by_place m.tasks (t - 1))
+set_twice m zero a b = refl
+set_twice m (suc i) a b = ap (λ (tasks : List Tasked). record m { tasks = tasks }) (by_place m.tasks i)
   where
     by_place : (xs : List Tasked) (i : ℕ) → set (set xs i (record (get_or xs i idle) { frame = a })) i (record (get_or (set xs i (record (get_or xs i idle) { frame = a })) i idle) { frame = b }) ≡ set xs i (record (get_or xs i idle) { frame = b })
     by_place [] i = refl
@@ -76,7 +80,7 @@ set_twice m t a b = ap (λ (tasks : List Tasked). record m { tasks = tasks }) (b
 
 -- one event of the task of a call
 pub call_event : (sc : Scenario) (p : Plain) (counted : Tally) (t : ℕ) (call : Call) (f : Frame) (kind : Kind) (n : Machine) → Under sc t call (phases_of p) (begins_of p)
-    → frame_next (tasked (state_of p counted) t).names f (Some call) f.receipt ≡ Some kind
+    → frame_next 1 (tasked (state_of p counted) t).names f (Some call) f.receipt ≡ Some kind
     → frame_event sc false (with_frame (state_of p counted) t (Some f)) t f kind ≡ Some n
     → Leads sc (with_frame (state_of p counted) t (Some f)) n
 call_event sc p counted t call f kind n u next e =
@@ -85,7 +89,8 @@ call_event sc p counted t call f kind n u next e =
     let nth : nth_call sc t (tasked (state_of p counted) t).begun ≡ Some call = ap (nth_call sc t) (begun_same p counted t) ∙ u.nth in
     leads_move sc (with_frame (state_of p counted) t (Some f)) n (Some t) (ap not u.more) (its_turn sc p counted t f u.task l)
     (event_by sc (with_frame (state_of p counted) t (Some f)) t (record (tasked (state_of p counted) t) { frame = Some f }) f kind u.task own refl
-    (ap (λ c. frame_next (tasked (state_of p counted) t).names f c f.receipt) nth ∙ next) ∙ e)
+    (ap (λ v. frame_next v (tasked (state_of p counted) t).names f (nth_call sc t (tasked (state_of p counted) t).begun) f.receipt) u.version
+    ∙ (ap (λ c. frame_next 1 (tasked (state_of p counted) t).names f c f.receipt) nth ∙ next)) ∙ e)
 
 -- and the call of the task that such an event looks at
 pub current_call : (sc : Scenario) (p : Plain) (counted : Tally) (t : ℕ) (call : Call) (o : Option Frame) → Under sc t call (phases_of p) (begins_of p)

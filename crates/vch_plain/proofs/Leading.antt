@@ -1,9 +1,9 @@
 -- Moves in turn, one after the other.
-use Rattle.std.proofs.Common.{◌≡◌, ◌⊎◌, inl, inr, ◌&&◌, ℕ, zero, suc, ◌+◌, ◌-◌, ◌<◌, ◌≤◌, Bool, true, false, nat_lt, List, [], ◌∷◌, refl, arith, sym, ap, ◌∙◌, subst, length, get_or, map, Option, Some, None}
+use Rattle.std.proofs.Common.{◌≡◌, ◌⊎◌, inl, inr, ◌&&◌, ℕ, zero, suc, ◌+◌, ◌≤◌, Bool, true, false, nat_lt, List, [], ◌∷◌, refl, arith, sym, ap, ◌∙◌, subst, length, get_or, map, Option, Some, None}
 use Rattle.std.proofs.lemmas.Grind.{common_steps}
-use Rattle.std.proofs.lemmas.List.{get_or-set_other}
-use Rattle.std.proofs.Math.ListN.{set}
 use Rattle.std.specs.Prelude.{is_some}
+use Rattle.vch_base.proofs.CallerLemmas.{own_item, other_items}
+use Rattle.vch_base.specs.Tasks.{at_task}
 use Rattle.vch_base.specs.declared.kind.Kind.{Kind}
 use Rattle.vch_model.specs.Lines.{is_task, phases_in}
 use Rattle.vch_model.specs.declared.lists.Scenario.{Scenario}
@@ -13,7 +13,7 @@ use Rattle.vch_machine.specs.Frames.{with_frame}
 use Rattle.vch_machine.specs.Next.{nth_call, frame_next, task_next}
 use Rattle.vch_machine.specs.PlainRuns.{never}
 use Rattle.vch_machine.specs.Schedules.{happens, run, in_turn, lowest_open, turn_task, move_of, has_ended}
-use Rattle.vch_legal.proofs.Turns.{all_tasks, lowest_some, lowest_none, number_of_all}
+use Rattle.vch_legal.proofs.CallerLemmas.{IsAmong, all_tasks, lowest_some, lowest_none, number_of_all}
 use Rattle.vch_plain.specs.States as states
 use Rattle.vch_plain.specs.States.{state_of}
 use Rattle.vch_plain.specs.Calls.{Leads}
@@ -56,23 +56,22 @@ leads_move sc m k choice over turn e = record { steps = 1; run = λ rest. ap (λ
 
 -- While a call is under way, its task alone has a frame.
 
-pub no_frame : (xs : List Task) (i : ℕ) → (get_or (map states.task_of xs) i idle).frame ≡ None
-no_frame [] i = refl
-no_frame (x ∷ xs) zero = refl
-no_frame (x ∷ xs) (suc i) = no_frame xs i
-
-pub own_task : (m : Machine) (t : ℕ) (o : Option Frame) → t - 1 < length m.tasks → tasked (with_frame m t o) t ≡ record (tasked m t) { frame = o }
-own_task m t o inside = at_set m.tasks (t - 1) (record (tasked m t) { frame = o }) inside
+pub no_frame : (xs : List Task) (t : ℕ) → (at_task (map states.task_of xs) t idle).frame ≡ None
+no_frame xs zero = refl
+no_frame xs (suc i) = at xs i
   where
-    at_set : (xs : List Tasked) (i : ℕ) (x : Tasked) → i < length xs → get_or (set xs i x) i idle ≡ x
-    at_set [] i x l = absurd (omega (arith, l))
-    at_set (y ∷ xs) zero x l = refl
-    at_set (y ∷ xs) (suc i) x l = at_set xs i x (omega (arith, l))
+    at : (xs : List Task) (i : ℕ) → (get_or (map states.task_of xs) i idle).frame ≡ None
+    at [] i = refl
+    at (x ∷ xs) zero = refl
+    at (x ∷ xs) (suc i) = at xs i
 
-other_task : (p : Plain) (counted : Tally) (t u : ℕ) (o : Option Frame) → (u - 1 ≡ t - 1 → ⊥) → (tasked (with_frame (state_of p counted) t o) u).frame ≡ None
+pub own_task : (m : Machine) (t : ℕ) (o : Option Frame) → IsAmong t m.tasks → tasked (with_frame m t o) t ≡ record (tasked m t) { frame = o }
+own_task m t o inside = own_item m.tasks t (record (tasked m t) { frame = o }) idle inside.0 inside.1
+
+other_task : (p : Plain) (counted : Tally) (t u : ℕ) (o : Option Frame) → (u ≡ t → ⊥) → (tasked (with_frame (state_of p counted) t o) u).frame ≡ None
 other_task p counted t u o apart =
-    ap (λ (x : Tasked). x.frame) (get_or-set_other (state_of p counted).tasks (t - 1) (u - 1) (record (tasked (state_of p counted) t) { frame = o }) idle apart)
-    ∙ no_frame p.tasks.items (u - 1)
+    ap (λ (x : Tasked). x.frame) (other_items (state_of p counted).tasks t u (record (tasked (state_of p counted) t) { frame = o }) idle apart)
+    ∙ no_frame p.tasks.items u
 
 pub task_bounds : (sc : Scenario) (t : ℕ) → is_task sc t ≡ true → (1 ≤ t) × (t ≤ length sc.flags)
 task_bounds sc t e = by_tests t (length sc.flags) e
@@ -81,7 +80,7 @@ task_bounds sc t e = by_tests t (length sc.flags) e
     by_tests a b e = grind (arith, common_steps)
 
 -- so it is its turn
-pub its_turn : (sc : Scenario) (p : Plain) (counted : Tally) (t : ℕ) (f : Frame) → is_task sc t ≡ true → t - 1 < length p.tasks.items
+pub its_turn : (sc : Scenario) (p : Plain) (counted : Tally) (t : ℕ) (f : Frame) → is_task sc t ≡ true → IsAmong t p.tasks.items
     → turn_task sc (with_frame (state_of p counted) t (Some f)) (lowest_open (with_frame (state_of p counted) t (Some f)) (numbers (length sc.flags))) ≡ Some t
 its_turn sc p counted t f task inside = by_lowest (lowest_open m (numbers (length sc.flags))) refl
   where
@@ -89,7 +88,7 @@ its_turn sc p counted t f task inside = by_lowest (lowest_open m (numbers (lengt
     m = with_frame (state_of p counted) t (Some f)
 
     own : is_some (tasked m t).frame ≡ true
-    own = ap (λ (x : Tasked). is_some x.frame) (own_task (state_of p counted) t (Some f) (subst (λ n. t - 1 < n) (sym (mapped p.tasks.items)) inside))
+    own = ap (λ (x : Tasked). is_some x.frame) (own_task (state_of p counted) t (Some f) (inside.0, subst (λ n. t ≤ n) (sym (mapped p.tasks.items)) inside.1))
       where
         mapped : (xs : List Task) → length (map states.task_of xs) ≡ length xs
         mapped [] = refl
@@ -105,23 +104,21 @@ its_turn sc p counted t f task inside = by_lowest (lowest_open m (numbers (lengt
         both x y = cc
     by_lowest (Some u) e =
         let o = lowest_some sc m (numbers (length sc.flags)) u (all_tasks sc) e in
-        let b = task_bounds sc u o.task in
-        let c = task_bounds sc t task in
-        by_same (split (u - 1) (t - 1)) o.frame b.0 c.0
+        by_same (split u t) o.frame
       where
         split : (a b : ℕ) → (a ≡ b) ⊎ (a ≡ b → ⊥)
         split a b = grind arith
 
-        by_same : (u - 1 ≡ t - 1) ⊎ (u - 1 ≡ t - 1 → ⊥) → is_some (tasked m u).frame ≡ true → 1 ≤ u → 1 ≤ t → Some u ≡ Some t
-        by_same (inl s) h x y = let z : u ≡ t = omega (arith, s, x, y) in ap Some z
-        by_same (inr n) h x y = let z : (tasked m u).frame ≡ None = other_task p counted t u (Some f) n in absurd (none_some z h)
+        by_same : (u ≡ t) ⊎ (u ≡ t → ⊥) → is_some (tasked m u).frame ≡ true → Some u ≡ Some t
+        by_same (inl s) h = ap Some s
+        by_same (inr n) h = let z : (tasked m u).frame ≡ None = other_task p counted t u (Some f) n in absurd (none_some z h)
           where
             none_some : {o : Option Frame} → o ≡ None → is_some o ≡ true → ⊥
             none_some a b = cc
 
 -- an event of a task that has a frame, by its kind
 pub event_by : (sc : Scenario) (m : Machine) (t : ℕ) (x : Tasked) (f : Frame) (kind : Kind) → is_task sc t ≡ true → tasked m t ≡ x → x.frame ≡ Some f
-    → frame_next x.names f (nth_call sc t x.begun) f.receipt ≡ Some kind → event sc false m t ≡ frame_event sc false m t f kind
+    → frame_next sc.version x.names f (nth_call sc t x.begun) f.receipt ≡ Some kind → event sc false m t ≡ frame_event sc false m t f kind
 unfolding event
 event_by sc m t x f kind task own frame next = rw task (by_own (tasked m t) own)
   where

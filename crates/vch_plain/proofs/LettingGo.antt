@@ -1,5 +1,5 @@
 -- A call lets a handle go, and its value is given back where nothing holds it any more.
-use Rattle.std.proofs.Common.{◌≡◌, ℕ, ◌-◌, ◌<◌, Bool, true, false, List, [], ◌∷◌, ◌||◌, refl, sym, ap, ◌∙◌, subst, length, map, Option, Some, None}
+use Rattle.std.proofs.Common.{◌≡◌, ℕ, Bool, true, false, List, [], ◌∷◌, ◌||◌, refl, sym, ap, ◌∙◌, subst, map, Option, Some, None}
 use Rattle.std.specs.List.{list_any}
 use Rattle.vch_base.specs.declared.kind.Kind.TheVariants as kinds
 use Rattle.vch_model.specs.Lines.{phases_in}
@@ -8,6 +8,7 @@ use Rattle.vch_model.specs.declared.lists.Scenario.{Scenario}
 use Rattle.vch_machine.specs.Frames.{closed, with_frame, tallied}
 use Rattle.vch_machine.specs.Leaving.{claim_if, more_claims, one_ask, do_let_go, released}
 use Rattle.vch_machine.specs.State.{Handles, Place, Claim, Frame, Tally, Machine, no_tally, option_has, task_holds, is_held, is_expected, claims_on}
+use Rattle.vch_legal.proofs.CallerLemmas.{IsAmong}
 use Rattle.vch_plain.specs.States.{state_of, task_of, user_place, option_voucher}
 use Rattle.vch_plain.specs.Calls.{Leads, Under, Goes, frame_with, left_with, phases_of, begins_of}
 use Rattle.vch_plain.specs.declared.state.Plain.{Plain}
@@ -28,7 +29,7 @@ closed_claim : (v : Option Handles) (at : ℕ) (c : Claim) → closed (record (f
 closed_claim None at c = refl
 closed_claim (Some v) at c = refl
 
-module _ (p : Plain) (counted : Tally) (t : ℕ) (v : Option Handles) (at h : ℕ) (within : t - 1 < length p.tasks.items) where
+module _ (p : Plain) (counted : Tally) (t : ℕ) (v : Option Handles) (at h : ℕ) (within : IsAmong t p.tasks.items) where
   bare : Frame
   bare = frame_with v at []
 
@@ -40,7 +41,7 @@ module _ (p : Plain) (counted : Tally) (t : ℕ) (v : Option Handles) (at h : �
 
   held_is : is_held (with_frame (state_of p counted) t (Some bare)) (user_place h) ≡ held
   unfolding bare held
-  held_is = held_own (user_place h) p.tasks.items (t - 1) (Some (frame_with v at [])) within
+  held_is = held_own (user_place h) p.tasks.items t (Some (frame_with v at [])) within
       ∙ ap (λ b. list_any (task_holds (user_place h)) (map task_of p.tasks.items) || b) (or_false (option_has v (user_place h)))
 
   fresh : Claim
@@ -52,8 +53,8 @@ module _ (p : Plain) (counted : Tally) (t : ℕ) (v : Option Handles) (at h : �
   one_claim : held ≡ false → claim_if (with_frame (state_of p counted) t (Some bare)) (user_place h) ≡ Some fresh
   unfolding bare fresh
   one_claim e =
-      let a : claims_on (with_frame (state_of p counted) t (Some (frame_with v at []))) (user_place h) ≡ [] = claims_own (user_place h) p.tasks.items (t - 1) (frame_with v at []) refl in
-      let b : is_expected (with_frame (state_of p counted) t (Some (frame_with v at []))) (user_place h) ≡ false = expects_own (user_place h) p.tasks.items (t - 1) (frame_with v at []) refl in
+      let a : claims_on (with_frame (state_of p counted) t (Some (frame_with v at []))) (user_place h) ≡ [] = claims_own (user_place h) p.tasks.items t (frame_with v at []) refl in
+      let b : is_expected (with_frame (state_of p counted) t (Some (frame_with v at []))) (user_place h) ≡ false = expects_own (user_place h) p.tasks.items t (frame_with v at []) refl in
       rw (not_fixed p.live.items h, held_is, e, a, b) refl
 
   lets : do_let_go (with_frame (state_of p counted) t (Some full)) t full (user_place h) []

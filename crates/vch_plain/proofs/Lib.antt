@@ -1,3 +1,4 @@
+mod Numbered
 mod NameRows
 mod LiveRows
 mod Leading

@@ -1,6 +1,7 @@
 -- A create gets its name, and a name loses a reference.
-use Rattle.std.proofs.Common.{◌≡◌, ℕ, zero, suc, ◌-◌, ◌<◌, Bool, true, false, List, [], ◌∷◌, refl, sym, ap, ◌∙◌, subst, length, map, drop, get_or, cond, Option, Some, None}
+use Rattle.std.proofs.Common.{◌≡◌, ℕ, zero, suc, Bool, true, false, List, [], ◌∷◌, refl, sym, ap, ◌∙◌, subst, map, drop, get_or, cond, Option, Some, None}
 use Rattle.std.proofs.Math.ListN.{set}
+use Rattle.vch_base.specs.Tasks.{at_task, set_task}
 use Rattle.vch_base.specs.declared.key.Key.TheVariants as keys
 use Rattle.vch_base.specs.declared.kind.Kind.TheVariants as kinds
 use Rattle.vch_recipe.specs.Recipes.{End, first_of}
@@ -17,6 +18,7 @@ use Rattle.vch_machine.specs.Frames.{closed, with_frame, noted, replied}
 use Rattle.vch_machine.specs.Naming.{name_for, name_of, with_name, places, doubled, item}
 use Rattle.vch_machine.specs.Placing.{do_place, ended}
 use Rattle.vch_machine.specs.State.{Frame, Tally, Tasked, Machine, no_tally, idle, tasked, with_tasked}
+use Rattle.vch_legal.proofs.CallerLemmas.{IsAmong}
 use Rattle.vch_plain.specs.Calls.{Under, Goes, frame_with, left_with, phases_of, begins_of}
 use Rattle.vch_plain.specs.Creates.{given_name, is_named, left_if, IsFinished}
 use Rattle.vch_plain.specs.States.{state_of, task_of, user_voucher}
@@ -24,7 +26,7 @@ use Rattle.vch_plain.specs.declared.state.Plain.{Plain}
 use Rattle.vch_plain.specs.declared.state.Task.{Task}
 use Rattle.vch_plain.proofs.Leading.{own_task}
 use Rattle.vch_plain.proofs.Going.{begins_by, begun_same, inside, inside_tasks, call_event, current_call}
-use Rattle.vch_plain.proofs.Held.{knows_own}
+use Rattle.vch_plain.proofs.Held.{knows_own, user_places}
 
 -- A change of a task that keeps how many calls were begun, and does not look at the frame.
 
@@ -35,7 +37,8 @@ pub record Quiet (F : Tasked → Tasked) : Type 0 where
 -- it is the same under a frame
 pub framed : (F : Tasked → Tasked) → Quiet F → (m : Machine) (t : ℕ) (a b : Option Frame)
     → with_frame (with_tasked (with_frame m t a) t (F (tasked (with_frame m t a) t))) t b ≡ with_frame (with_tasked m t (F (tasked m t))) t b
-framed F q m t a b = ap (λ (tasks : List Tasked). record m { tasks = tasks }) (by_place m.tasks (t - 1))
+framed F q m zero a b = refl
+framed F q m (suc i) a b = ap (λ (tasks : List Tasked). record m { tasks = tasks }) (by_place m.tasks i)
   where
     by_place : (xs : List Tasked) (i : ℕ)
         → set (set (set xs i (record (get_or xs i idle) { frame = a })) i (F (get_or (set xs i (record (get_or xs i idle) { frame = a })) i idle))) i
@@ -47,16 +50,20 @@ framed F q m t a b = ap (λ (tasks : List Tasked). record m { tasks = tasks }) (
 
 -- and no call is begun by it
 pub begins_stay : (F : Tasked → Tasked) → Quiet F → (p mid : Plain) (t : ℕ) → ((c : Tally) → state_of mid c ≡ with_tasked (state_of p c) t (F (tasked (state_of p c) t))) → begins_of mid ≡ begins_of p
-begins_stay F q p mid t e = sym (seen mid.tasks.items) ∙ (ap (λ (m : Machine). map (λ (x : Tasked). x.begun) m.tasks) (e no_tally) ∙ (kept (map task_of p.tasks.items) (t - 1) ∙ seen p.tasks.items))
+begins_stay F q p mid t e = sym (seen mid.tasks.items) ∙ (ap (λ (m : Machine). map (λ (x : Tasked). x.begun) m.tasks) (e no_tally) ∙ (kept (map task_of p.tasks.items) t ∙ seen p.tasks.items))
   where
     seen : (xs : List Task) → map (λ (x : Tasked). x.begun) (map task_of xs) ≡ map (λ (x : Task). x.begun) xs
     seen [] = refl
     seen (x ∷ xs) = ap (λ ns. x.begun ∷ ns) (seen xs)
 
-    kept : (xs : List Tasked) (i : ℕ) → map (λ (x : Tasked). x.begun) (set xs i (F (get_or xs i idle))) ≡ map (λ (x : Tasked). x.begun) xs
-    kept [] i = refl
-    kept (x ∷ xs) zero = ap (λ n. n ∷ map (λ (y : Tasked). y.begun) xs) (q.begun x)
-    kept (x ∷ xs) (suc i) = ap (λ ns. x.begun ∷ ns) (kept xs i)
+    at : (xs : List Tasked) (i : ℕ) → map (λ (x : Tasked). x.begun) (set xs i (F (get_or xs i idle))) ≡ map (λ (x : Tasked). x.begun) xs
+    at [] i = refl
+    at (x ∷ xs) zero = ap (λ n. n ∷ map (λ (y : Tasked). y.begun) xs) (q.begun x)
+    at (x ∷ xs) (suc i) = ap (λ ns. x.begun ∷ ns) (at xs i)
+
+    kept : (xs : List Tasked) (t : ℕ) → map (λ (x : Tasked). x.begun) (set_task xs t (F (at_task xs t idle))) ≡ map (λ (x : Tasked). x.begun) xs
+    kept xs zero = refl
+    kept xs (suc i) = at xs i
 
 pub given_quiet : (handle : Option ℕ) → Quiet (given_name handle)
 given_quiet handle = record { begun = λ x. same x (name_of x.names (user_voucher handle)); frame = λ x o. still x o (name_of x.names (user_voucher handle)) }
@@ -70,8 +77,8 @@ given_quiet handle = record { begun = λ x. same x (name_of x.names (user_vouche
     still x o (Some n) = refl
 
 -- an entry of a call, whatever the frame
-pub replied_with : (p q : Plain) (c : Tally) (t : ℕ) (o : Option Frame) (call : Call) (reply : Reply) → t - 1 < length p.tasks.items
-    → state_of q c ≡ noted (state_of p c) (entries.Call t (get_or (begins_of p) (t - 1) 0) (word_of call) reply) → replied (with_frame (state_of p c) t o) t call reply ≡ with_frame (state_of q c) t o
+pub replied_with : (p q : Plain) (c : Tally) (t : ℕ) (o : Option Frame) (call : Call) (reply : Reply) → IsAmong t p.tasks.items
+    → state_of q c ≡ noted (state_of p c) (entries.Call t (at_task (begins_of p) t 0) (word_of call) reply) → replied (with_frame (state_of p c) t o) t call reply ≡ with_frame (state_of q c) t o
 replied_with p q c t o call reply within e =
     ap (λ n. noted (with_frame (state_of p c) t o) (entries.Call t n (word_of call) reply))
     (ap (λ (x : Tasked). x.begun) (own_task (state_of p c) t o (inside_tasks p c t within)) ∙ begun_same p c t)
@@ -94,11 +101,11 @@ module _ (p : Plain) (t : ℕ) (bytes : List ℕ) (at : ℕ) (handle : Option �
   lets_are : (sc : Scenario) (c : Tally) → ended now (doubled (with_frame (state_of p c) t (Some now)) (user_voucher handle)) ≡ ends_as
   unfolding now ends_as
   lets_are sc c =
-      ap (λ b. ended now (cond b (places (user_voucher handle)) [])) (knows_own (user_voucher handle) p.tasks.items (t - 1) (Some now))
+      ap (λ b. ended now (cond b (places (user_voucher handle)) [])) (knows_own (user_voucher handle) p.tasks.items t (Some now))
       ∙ (by (is_named p handle) ∙ ap (λ l. closed (frame_with None at (item keys.User l))) (sym done.1))
     where
       by : (b : Bool) → ended now (cond b (places (user_voucher handle)) []) ≡ closed (frame_with None at (item keys.User (left_if b handle)))
-      by true = refl
+      by true = ap (λ lets. closed (frame_with None at lets)) (user_places handle)
       by false = refl
 
   place_event : (sc : Scenario) (c : Tally) → Under sc t (calls.Create bytes) (phases_of p) (begins_of p)
@@ -110,7 +117,7 @@ module _ (p : Plain) (t : ℕ) (bytes : List ℕ) (at : ℕ) (handle : Option �
       let m = with_frame (state_of p c) t (Some now) in
       let begins = begins_stay (given_name handle) (given_quiet handle) p mid t done.2 in
       let within_mid = inside sc t (calls.Create bytes) mid (subst (λ ns. Under sc t (calls.Create bytes) (phases_of mid) ns) (sym begins) (subst (λ n. Under sc t (calls.Create bytes) n (begins_of p)) (sym (ap (λ (k : Machine). phases_in k.past) (done.2 no_tally))) u)) in
-      ap (λ (o : Option Call). on_formed (λ v call. do_place false (with_frame (state_of p c) t (Some now)) t now v call) (Some (user_voucher handle)) o) (current_call sc p c t (calls.Create bytes) (Some now) u)
+      ap (λ (o : Option Call). on_formed (λ v call. do_place sc false (with_frame (state_of p c) t (Some now)) t now v call) (Some (user_voucher handle)) o) (current_call sc p c t (calls.Create bytes) (Some now) u)
       ∙ (ap (λ (x : Tasked). Some (replied (with_frame (with_tasked (with_frame (state_of p c) t (Some now)) t (given_name handle (tasked (with_frame (state_of p c) t (Some now)) t))) t (ended now (doubled (with_frame (state_of p c) t (Some now)) (user_voucher handle)))) t (calls.Create bytes) (replies.Created (name_for x (name_of x.names (user_voucher handle)))))) own
       ∙ (ap (λ o. Some (replied (with_frame (with_tasked (with_frame (state_of p c) t (Some now)) t (given_name handle (tasked (with_frame (state_of p c) t (Some now)) t))) t o) t (calls.Create bytes) (replies.Created (new_name c)))) (lets_are sc c)
       ∙ (ap (λ k. Some (replied k t (calls.Create bytes) (replies.Created (new_name c)))) (framed (given_name handle) (given_quiet handle) (state_of p c) t (Some now) ends_as

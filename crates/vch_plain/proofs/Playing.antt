@@ -1,10 +1,11 @@
 -- The lines and the phases, one after the other.
-use Rattle.std.proofs.Common.{◌≡◌, ℕ, zero, suc, ◌+◌, ◌-◌, ◌<◌, ◌≤◌, ◌==◌, nat_lt, not, Bool, true, false, List, [], ◌∷◌, ◌++◌, refl, arith, sym, ap, ◌∙◌, subst, length, map, take, drop, get_or, Option, Some, None}
+use Rattle.std.proofs.Common.{◌≡◌, ℕ, zero, suc, ◌+◌, ◌<◌, ◌≤◌, ◌==◌, nat_lt, not, Bool, true, false, List, [], ◌∷◌, ◌++◌, refl, arith, sym, ap, ◌∙◌, subst, length, map, take, drop, get_or, Some, None}
 use Rattle.std.specs.Prelude.{slice_get}
-use Rattle.std.proofs.Math.ListN.{set}
 use Rattle.std.proofs.lemmas.Grind.{common_steps}
-use Rattle.std.proofs.lemmas.List.{take_all, get_or-set_other, map-append, reverse-reverse}
-use Rattle.std.specs.List.{AllByRecursion}
+use Rattle.std.proofs.lemmas.List.{take_all, map-append, reverse-reverse}
+use Rattle.std.specs.List.{AllByRecursion, list_all}
+use Rattle.vch_base.proofs.CallerLemmas.{own_item, other_items, as_long}
+use Rattle.vch_base.specs.Tasks.{at_task, set_task}
 use Rattle.vch_base.specs.declared.flags.Flags.{Flags}
 use Rattle.vch_model.specs.Legal.{Whole}
 use Rattle.vch_model.specs.Lines.{is_task, phases_in, lines_until}
@@ -12,18 +13,14 @@ use Rattle.vch_model.specs.Scenarios.{IsIn, IsLimited}
 use Rattle.vch_model.specs.declared.call.Line.{Line}
 use Rattle.vch_model.specs.declared.entry.Entry.TheVariants as entries
 use Rattle.vch_model.specs.declared.lists.Scenario.{Scenario}
-use Rattle.vch_machine.specs.Events.{ready, numbers, phase_event}
+use Rattle.vch_machine.specs.Events.{numbers, is_at_rest, all_at_rest, phase_event}
 use Rattle.vch_machine.specs.Frames.{noted}
-use Rattle.vch_machine.specs.Next.{nth_call, task_next}
+use Rattle.vch_machine.specs.Next.{nth_call}
 use Rattle.vch_machine.specs.PlainRuns.{never, IsPlainRun}
 use Rattle.vch_machine.specs.Schedules.{run, run_from_start, in_turn, turn_task, has_ended, first_waiting}
-use Rattle.vch_machine.specs.State.{Frame, Tally, Tasked, Machine, no_tally, idle, start, tasked}
+use Rattle.vch_machine.specs.State.{Tally, Tasked, Machine, no_tally, idle, start, tasked}
 use Rattle.vch_legal.specs.Facts.{bit, times}
-use Rattle.vch_legal.proofs.AtRest.{task_of}
-use Rattle.vch_legal.proofs.PhaseCounts.{lines_with_phase}
-use Rattle.vch_legal.proofs.PhaseLines.{no_lines}
-use Rattle.vch_legal.proofs.Runs.{run_whole}
-use Rattle.vch_legal.proofs.Turns.{own_number, all_tasks}
+use Rattle.vch_legal.proofs.CallerLemmas.{task_of, lines_with_phase, no_lines, run_whole, own_number, all_tasks}
 use Rattle.vch_plain.specs.Calls.{Leads, phases_of, begins_of}
 use Rattle.vch_plain.specs.Serving.{IsNextCall, Serves, IsAt, Came}
 use Rattle.vch_plain.specs.States as states
@@ -32,7 +29,7 @@ use Rattle.vch_plain.specs.declared.state.Plain.{Plain}
 use Rattle.vch_plain.specs.declared.state.Task.{Task}
 use Rattle.vch_plain.proofs.Leading.{leads_self, leads_then, leads_move, no_frame, task_bounds}
 use Rattle.vch_plain.proofs.Going.{begins_by, begun_same}
-use Rattle.vch_plain.proofs.Beginning.{none_open, get_set, set_long}
+use Rattle.vch_plain.proofs.Beginning.{none_open}
 use Rattle.vch_plain.proofs.Turns.{next_call, Passed, waits, waits_none, split_at, one_more, few_taken}
 
 abbrev of : ℕ → List Line → ℕ
@@ -69,42 +66,43 @@ passed_at sc phase i p c at = record {
     plain : (n : ℕ) → n ≡ 0 + n
     plain n = omega arith
 
-pub next_line : (sc : Scenario) (phase i : ℕ) (p : Plain) (line : Line) → IsLimited sc → phase < length sc.phases → slice_get (get_or sc.phases phase []) i ≡ Some line → IsAt sc phase i p
+pub next_line : (sc : Scenario) (phase i : ℕ) (p : Plain) (line : Line) → sc.version ≡ 1 → IsLimited sc → phase < length sc.phases → slice_get (get_or sc.phases phase []) i ≡ Some line → IsAt sc phase i p
     → IsNextCall sc line.task line.call p
-next_line sc phase i p line limited more e at =
-    let all = of_phase (IsIn (length sc.flags)) sc.phases phase limited.lines in
-    let in_line = of_line (IsIn (length sc.flags)) (get_or sc.phases phase []) i line all e in
+next_line sc phase i p line version limited more e at =
+    let all = of_phase (IsIn sc.version (length sc.flags)) sc.phases phase limited.lines in
+    let in_line = of_line (IsIn sc.version (length sc.flags)) (get_or sc.phases phase []) i line all e in
     let task : is_task sc line.task ≡ true = task_of sc line.task in_line.0 in_line.1 in
     let b = at.begun line.task task in
     record {
+      version = version;
       task = task;
       long = at.long;
       more = ap (λ n. nat_lt n (length sc.phases)) at.phases ∙ below phase (length sc.phases) more;
       turn = λ c.
           ap (λ n. first_waiting sc (state_of p c) [] (get_or sc.phases n [])) at.phases
           ∙ (ap (first_waiting sc (state_of p c) []) (split_at (get_or sc.phases phase []) i line e)
-          ∙ waits sc (state_of p c) [] (take i (get_or sc.phases phase [])) (drop (i + 1) (get_or sc.phases phase [])) line (taken (IsIn (length sc.flags)) (get_or sc.phases phase []) i all) task (passed_at sc phase i p c at));
+          ∙ waits sc (state_of p c) [] (take i (get_or sc.phases phase [])) (drop (i + 1) (get_or sc.phases phase [])) line (taken (IsIn sc.version (length sc.flags)) (get_or sc.phases phase []) i all) task (passed_at sc phase i p c at));
       may =
           let d = lines_with_phase sc line.task phase in
           let f = few_taken line.task (get_or sc.phases phase []) (i + 1) in
           let g = one_more line.task (get_or sc.phases phase []) i line e in
           let h : bit (line.task == line.task) ≡ 1 = ap bit (own_number line.task) in
-          ap (λ n. nat_lt (get_or (begins_of p) (line.task - 1) 0) (lines_until sc (n + 1) line.task)) at.phases ∙ below _ _ (omega (arith, b, d, f, g, h));
+          ap (λ n. nat_lt (at_task (begins_of p) line.task 0) (lines_until sc (n + 1) line.task)) at.phases ∙ below _ _ (omega (arith, b, d, f, g, h));
       nth = ap (λ n. nth_call sc line.task (n + 1)) b ∙ next_call sc phase i line e;
     }
 
 -- and it is done
-pub line_done : (sc : Scenario) (phase i : ℕ) (p q : Plain) (line : Line) → IsLimited sc → phase < length sc.phases → slice_get (get_or sc.phases phase []) i ≡ Some line → IsAt sc phase i p
+pub line_done : (sc : Scenario) (phase i : ℕ) (p q : Plain) (line : Line) → sc.version ≡ 1 → IsLimited sc → phase < length sc.phases → slice_get (get_or sc.phases phase []) i ≡ Some line → IsAt sc phase i p
     → Serves line.task line.call p q → Came sc phase (i + 1) p q
-line_done sc phase i p q line limited more e at s =
-    let n = next_line sc phase i p line limited more e at in
+line_done sc phase i p q line version limited more e at s =
+    let n = next_line sc phase i p line version limited more e at in
     record {
       at = record {
         phases = s.phases ∙ at.phases;
-        long = ap length s.begins ∙ (set_long (begins_of p) (line.task - 1) (get_or (begins_of p) (line.task - 1) 0 + 1) ∙ at.long);
+        long = ap length s.begins ∙ (as_long (begins_of p) line.task (at_task (begins_of p) line.task 0 + 1) ∙ at.long);
         begun = λ t task.
-            ap (λ ns. get_or ns (t - 1) 0) s.begins
-            ∙ (at_task t (line.task == t) refl task n.task
+            ap (λ ns. at_task ns t 0) s.begins
+            ∙ (at_line t (line.task == t) refl task n.task
             ∙ regroup (lines_until sc phase t) (of t (take i (get_or sc.phases phase []))) (bit (line.task == t)) (of t (take (i + 1) (get_or sc.phases phase []))) (one_more t (get_or sc.phases phase []) i line e));
       };
       comes = λ c. s.arrives sc c n;
@@ -113,30 +111,28 @@ line_done sc phase i p q line limited more e at s =
     regroup : (a b d f : ℕ) → f ≡ b + d → (a + b) + d ≡ a + f
     regroup a b d f h = omega (arith, h)
 
-    at_task : (t : ℕ) (b : Bool) → (line.task == t) ≡ b → is_task sc t ≡ true → is_task sc line.task ≡ true
-        → get_or (set (begins_of p) (line.task - 1) (get_or (begins_of p) (line.task - 1) 0 + 1)) (t - 1) 0 ≡ (lines_until sc phase t + of t (take i (get_or sc.phases phase []))) + bit (line.task == t)
-    at_task t true k task own =
+    at_line : (t : ℕ) (b : Bool) → (line.task == t) ≡ b → is_task sc t ≡ true → is_task sc line.task ≡ true
+        → at_task (set_task (begins_of p) line.task (at_task (begins_of p) line.task 0 + 1)) t 0 ≡ (lines_until sc phase t + of t (take i (get_or sc.phases phase []))) + bit (line.task == t)
+    at_line t true k task own =
         let z : line.task ≡ t = same _ _ k in
         let l = at.long in
-        let d = task_bounds sc t task in let d0 = d.0 in let d1 = d.1 in
-        let x : get_or (set (begins_of p) (line.task - 1) (get_or (begins_of p) (line.task - 1) 0 + 1)) (t - 1) 0 ≡ get_or (begins_of p) (t - 1) 0 + 1 =
-        ap (λ u. get_or (set (begins_of p) (u - 1) (get_or (begins_of p) (u - 1) 0 + 1)) (t - 1) 0) z ∙ get_set (begins_of p) (t - 1) (get_or (begins_of p) (t - 1) 0 + 1) (omega (arith, l, d0, d1)) in
+        let d = task_bounds sc t task in let d1 = d.1 in
+        let x : at_task (set_task (begins_of p) line.task (at_task (begins_of p) line.task 0 + 1)) t 0 ≡ at_task (begins_of p) t 0 + 1 =
+        ap (λ u. at_task (set_task (begins_of p) u (at_task (begins_of p) u 0 + 1)) t 0) z ∙ own_item (begins_of p) t (at_task (begins_of p) t 0 + 1) 0 d.0 (omega (arith, l, d1)) in
         let y = at.begun t task in
         let w : bit (line.task == t) ≡ 1 = ap bit k in
         omega (arith, x, y, w)
       where
         same : (a b : ℕ) → (a == b) ≡ true → a ≡ b
         same a b h = grind (arith, common_steps)
-    at_task t false k task own =
-        let d = task_bounds sc t task in let f = task_bounds sc line.task own in
-        let apart : t - 1 ≡ line.task - 1 → ⊥ = other t line.task k d.0 f.0 in
-        let x : get_or (set (begins_of p) (line.task - 1) (get_or (begins_of p) (line.task - 1) 0 + 1)) (t - 1) 0 ≡ get_or (begins_of p) (t - 1) 0 = get_or-set_other (begins_of p) (line.task - 1) (t - 1) _ 0 apart in
+    at_line t false k task own =
+        let x : at_task (set_task (begins_of p) line.task (at_task (begins_of p) line.task 0 + 1)) t 0 ≡ at_task (begins_of p) t 0 = other_items (begins_of p) line.task t _ 0 (other t line.task k) in
         let y = at.begun t task in
         let w : bit (line.task == t) ≡ 0 = ap bit k in
         omega (arith, x, y, w)
       where
-        other : (a b : ℕ) → (b == a) ≡ false → 1 ≤ a → 1 ≤ b → a - 1 ≡ b - 1 → ⊥
-        other a b h k l m = grind (arith, common_steps)
+        other : (a b : ℕ) → (b == a) ≡ false → a ≡ b → ⊥
+        other a b h k = grind (arith, common_steps)
 
 pub came_self : (sc : Scenario) (phase i : ℕ) (p : Plain) → IsAt sc phase i p → Came sc phase i p p
 came_self sc phase i p at = record { at = at; comes = λ c. record { counted = c; leads = leads_self sc (state_of p c) } }
@@ -150,15 +146,13 @@ came_then sc a b d e p q r x y = record {
 -- The end of a phase.
 
 rests : (sc : Scenario) (p : Plain) (c : Tally) → ((t : ℕ) → is_task sc t ≡ true → nat_lt (tasked (state_of p c) t).begun (lines_until sc (phases_of p + 1) t) ≡ false)
-    → (ts : List ℕ) → AllByRecursion (λ t. is_task sc t ≡ true) ts → ready sc (state_of p c) ts ≡ []
+    → (ts : List ℕ) → AllByRecursion (λ t. is_task sc t ≡ true) ts → list_all (λ t. is_at_rest sc (phases_of p) t (tasked (state_of p c) t)) ts ≡ true
 rests sc p c done [] all = refl
-rests sc p c done (t ∷ ts) all = rw (none (tasked (state_of p c) t).frame (no_frame p.tasks.items (t - 1))) (rests sc p c done ts all.1)
-  where
-    none : (o : Option Frame) → o ≡ None → task_next sc (phases_of p) t (tasked (state_of p c) t) o ≡ None
-    none None e = rw (done t all.0) refl
-    none (Some f) e = cc
+rests sc p c done (t ∷ ts) all =
+    let e : (tasked (state_of p c) t).frame ≡ None = no_frame p.tasks.items t in
+    rw (e, done t all.0) (rests sc p c done ts all.1)
 
-phase_by : (sc : Scenario) (m : Machine) → ready sc m (numbers (length sc.flags)) ≡ [] → nat_lt (phases_in m.past) (length sc.phases) ≡ true → phase_event sc m ≡ Some (noted m entries.Phase)
+phase_by : (sc : Scenario) (m : Machine) → all_at_rest sc m ≡ true → nat_lt (phases_in m.past) (length sc.phases) ≡ true → phase_event sc m ≡ Some (noted m entries.Phase)
 unfolding phase_event
 phase_by sc m e l = rw (e, l) refl
 
@@ -169,7 +163,7 @@ phase_done sc phase p q limited more at e = record {
     phases = ap (λ (m : Machine). phases_in m.past) (e no_tally) ∙ ap (λ n. n + 1) at.phases;
     long = ap length same ∙ at.long;
     begun = λ t task.
-        ap (λ ns. get_or ns (t - 1) 0) same ∙ (at_end t task ∙ plain (lines_until sc (phase + 1) t) (of t (take 0 (get_or sc.phases (phase + 1) []))) (nothing t (get_or sc.phases (phase + 1) [])));
+        ap (λ ns. at_task ns t 0) same ∙ (at_end t task ∙ plain (lines_until sc (phase + 1) t) (of t (take 0 (get_or sc.phases (phase + 1) []))) (nothing t (get_or sc.phases (phase + 1) [])));
   };
   comes = λ c. record {
     counted = c;
@@ -192,7 +186,7 @@ phase_done sc phase p q limited more at e = record {
     nothing t [] = refl
     nothing t (x ∷ lines) = refl
 
-    at_end : (t : ℕ) → is_task sc t ≡ true → get_or (begins_of p) (t - 1) 0 ≡ lines_until sc (phase + 1) t
+    at_end : (t : ℕ) → is_task sc t ≡ true → at_task (begins_of p) t 0 ≡ lines_until sc (phase + 1) t
     at_end t task =
         let a = at.begun t task in
         let b : of t (take (length (get_or sc.phases phase [])) (get_or sc.phases phase [])) ≡ of t (get_or sc.phases phase []) = ap (of t) (take_all (length (get_or sc.phases phase [])) (get_or sc.phases phase []) (omega arith)) in
@@ -208,7 +202,7 @@ phase_done sc phase p q limited more at e = record {
     no_line : (c : Tally) → first_waiting sc (state_of p c) [] (get_or sc.phases phase []) ≡ None
     no_line c =
         let whole : take (length (get_or sc.phases phase [])) (get_or sc.phases phase []) ≡ get_or sc.phases phase [] = take_all (length (get_or sc.phases phase [])) (get_or sc.phases phase []) (omega arith) in
-        waits_none sc (state_of p c) [] (get_or sc.phases phase []) (of_phase (IsIn (length sc.flags)) sc.phases phase limited.lines)
+        waits_none sc (state_of p c) [] (get_or sc.phases phase []) (of_phase (IsIn sc.version (length sc.flags)) sc.phases phase limited.lines)
         (subst (λ ls. Passed sc (state_of p c) [] ls) whole (passed_at sc phase (length (get_or sc.phases phase [])) p c at))
 
 -- The start, and the end of all.
@@ -218,8 +212,8 @@ at_start sc p e = record {
   phases = ap (λ (m : Machine). phases_in m.past) (e no_tally);
   long = sym (ap length (seen p.tasks.items)) ∙ (ap (λ (m : Machine). length (map (λ (x : Tasked). x.begun) m.tasks)) (e no_tally) ∙ idle_long sc.flags);
   begun = λ t task.
-      ap (λ ns. get_or ns (t - 1) 0) (sym (seen p.tasks.items) ∙ ap (λ (m : Machine). map (λ (x : Tasked). x.begun) m.tasks) (e no_tally))
-      ∙ (idle_begun sc.flags (t - 1) ∙ (let a = no_lines sc t in let b = nothing t (get_or sc.phases 0 []) in omega (arith, a, b)));
+      ap (λ ns. at_task ns t 0) (sym (seen p.tasks.items) ∙ ap (λ (m : Machine). map (λ (x : Tasked). x.begun) m.tasks) (e no_tally))
+      ∙ (idle_begun sc.flags t ∙ (let a = no_lines sc t in let b = nothing t (get_or sc.phases 0 []) in omega (arith, a, b)));
 }
   where
     seen : (xs : List Task) → map (λ (x : Tasked). x.begun) (map states.task_of xs) ≡ map (λ (x : Task). x.begun) xs
@@ -230,10 +224,14 @@ at_start sc p e = record {
     idle_long [] = refl
     idle_long (f ∷ flags) = ap suc (idle_long flags)
 
-    idle_begun : (flags : List Flags) (i : ℕ) → get_or (map (λ (x : Tasked). x.begun) (map (λ _. idle) flags)) i 0 ≡ 0
-    idle_begun [] i = refl
-    idle_begun (f ∷ flags) zero = refl
-    idle_begun (f ∷ flags) (suc i) = idle_begun flags i
+    idle_at : (flags : List Flags) (i : ℕ) → get_or (map (λ (x : Tasked). x.begun) (map (λ _. idle) flags)) i 0 ≡ 0
+    idle_at [] i = refl
+    idle_at (f ∷ flags) zero = refl
+    idle_at (f ∷ flags) (suc i) = idle_at flags i
+
+    idle_begun : (flags : List Flags) (t : ℕ) → at_task (map (λ (x : Tasked). x.begun) (map (λ _. idle) flags)) t 0 ≡ 0
+    idle_begun flags zero = refl
+    idle_begun flags (suc i) = idle_at flags i
 
     nothing : (t : ℕ) (lines : List Line) → of t (take 0 lines) ≡ 0
     nothing t [] = refl

@@ -1,9 +1,12 @@
 -- A whole call, from its beginning to the state in which nothing of it is left.
-use Rattle.std.proofs.Common.{◌≡◌, ℕ, zero, suc, ◌-◌, ◌<◌, ◌≤◌, ◌==◌, nat_lt, Bool, true, false, List, [], ◌∷◌, refl, arith, sym, ap, ◌∙◌, subst, length, map, get_or, cond, Option, Some, None, pos, negsuc}
+use Rattle.std.proofs.Common.{◌≡◌, ℕ, zero, suc, ◌<◌, ◌≤◌, ◌==◌, nat_lt, Bool, true, false, List, [], ◌∷◌, refl, arith, sym, ap, ◌∙◌, subst, length, map, get_or, cond, Option, Some, None}
 use Rattle.std.proofs.lemmas.Grind.{common_steps}
 use Rattle.std.proofs.Math.ListN.{set}
-use Rattle.vch_legal.proofs.SeenTasks.{member_seen}
+use Rattle.vch_legal.proofs.CallerLemmas.{IsAmong, member_seen}
+use Rattle.vch_base.specs.Tasks.{at_task}
+use Rattle.vch_base.specs.declared.codes.TheConstants.{KERN_INVALID_NAME, MIG_ARRAY_TOO_LARGE}
 use Rattle.vch_base.specs.declared.key.Key.TheVariants as keys
+use Rattle.vch_base.specs.declared.limits.TheConstants.{ARRAY_BYTES}
 use Rattle.vch_model.specs.Eval.{create}
 use Rattle.vch_model.specs.Lines.{phases_in}
 use Rattle.vch_model.specs.Replies.{refused, created, given_up}
@@ -29,10 +32,11 @@ use Rattle.vch_plain.proofs.Leading.{leads_then}
 use Rattle.vch_plain.proofs.Going.{begins_by, begun_same, inside, under_same}
 use Rattle.vch_plain.proofs.Naming.{Quiet, begins_stay, replied_with}
 use Rattle.vch_plain.proofs.Beginning.{IsBegun, begin_leads, begun_phases, begun_begins, begun_under, no_frame_set}
+use Rattle.vch_plain.proofs.Held.{user_places}
 
 -- a call that is answered as it begins
 answered : (t : ℕ) (call : Call) (reply : Reply) (p mid q : Plain) → IsBegun p t mid
-    → ((c : Tally) → state_of q c ≡ noted (state_of mid c) (entries.Call t (get_or (begins_of mid) (t - 1) 0) (word_of call) reply))
+    → ((c : Tally) → state_of q c ≡ noted (state_of mid c) (entries.Call t (at_task (begins_of mid) t 0) (word_of call) reply))
     → phases_of q ≡ phases_of mid
     → ((sc : Scenario) (c : Tally) → begin_call sc false (with_tasked (state_of p c) t (begun_one (tasked (state_of p c) t))) t call (store_reply sc (state_of p c) t call)
     ≡ replied (with_tasked (state_of p c) t (begun_one (tasked (state_of p c) t))) t call reply)
@@ -48,34 +52,34 @@ answered t call reply p mid q b e same begins = record {
   };
 }
 
-too_long : (names : ℕ → Option Voucher) (t : ℕ) (bytes : List ℕ) → nat_lt 5120 (length bytes) ≡ true → (s : store.Store) → created s t (create names t bytes) ≡ refused (negsuc 306)
+too_long : (version : ℕ) (names : ℕ → Option Voucher) (t : ℕ) (bytes : List ℕ) → nat_lt ARRAY_BYTES (length bytes) ≡ true → (s : store.Store) → created s t (create version names t bytes) ≡ refused MIG_ARRAY_TOO_LARGE
 unfolding create
-too_long names t bytes e s = rw e refl
+too_long version names t bytes e s = rw e refl
 
-no_bytes : (names : ℕ → Option Voucher) (t : ℕ) (bytes : List ℕ) → nat_lt 5120 (length bytes) ≡ false → (length bytes == 0) ≡ true → (s : store.Store) → created s t (create names t bytes) ≡ replies.Created 0
+no_bytes : (version : ℕ) (names : ℕ → Option Voucher) (t : ℕ) (bytes : List ℕ) → nat_lt ARRAY_BYTES (length bytes) ≡ false → (length bytes == 0) ≡ true → (s : store.Store) → created s t (create version names t bytes) ≡ replies.Created 0
 unfolding create
-no_bytes names t bytes e z s = rw (e, z) refl
+no_bytes version names t bytes e z s = rw (e, z) refl
 
-pub serves_long : (t : ℕ) (bytes : List ℕ) (p mid q : Plain) → IsBegun p t mid → 5120 < length bytes
-    → ((c : Tally) → state_of q c ≡ noted (state_of mid c) (entries.Call t (get_or (begins_of mid) (t - 1) 0) (word_of (calls.Create bytes)) (refused (negsuc 306))))
+pub serves_long : (t : ℕ) (bytes : List ℕ) (p mid q : Plain) → IsBegun p t mid → ARRAY_BYTES < length bytes
+    → ((c : Tally) → state_of q c ≡ noted (state_of mid c) (entries.Call t (at_task (begins_of mid) t 0) (word_of (calls.Create bytes)) (refused MIG_ARRAY_TOO_LARGE)))
     → Serves t (calls.Create bytes) p q
 serves_long t bytes p mid q b long e =
-    let many : nat_lt 5120 (length bytes) ≡ true = grind (arith, common_steps) in
+    let many : nat_lt ARRAY_BYTES (length bytes) ≡ true = grind (arith, common_steps) in
     let some : (length bytes == 0) ≡ false = grind (arith, common_steps) in
-    answered t (calls.Create bytes) (refused (negsuc 306)) p mid q b e (ap (λ (m : Machine). phases_in m.past) (e no_tally))
-    (λ sc c. ap (λ r. begin_call sc false (with_tasked (state_of p c) t (begun_one (tasked (state_of p c) t))) t (calls.Create bytes) r) (too_long _ t bytes many (seen (state_of p c))) ∙ rw (some, many) refl)
+    answered t (calls.Create bytes) (refused MIG_ARRAY_TOO_LARGE) p mid q b e (ap (λ (m : Machine). phases_in m.past) (e no_tally))
+    (λ sc c. ap (λ r. begin_call sc false (with_tasked (state_of p c) t (begun_one (tasked (state_of p c) t))) t (calls.Create bytes) r) (too_long sc.version _ t bytes many (seen (state_of p c))) ∙ rw (some, many) refl)
 
 pub serves_empty : (t : ℕ) (bytes : List ℕ) (p mid q : Plain) → IsBegun p t mid → length bytes ≡ 0
-    → ((c : Tally) → state_of q c ≡ noted (state_of mid c) (entries.Call t (get_or (begins_of mid) (t - 1) 0) (word_of (calls.Create bytes)) (replies.Created 0)))
+    → ((c : Tally) → state_of q c ≡ noted (state_of mid c) (entries.Call t (at_task (begins_of mid) t 0) (word_of (calls.Create bytes)) (replies.Created 0)))
     → Serves t (calls.Create bytes) p q
 serves_empty t bytes p mid q b none e =
-    let few : nat_lt 5120 (length bytes) ≡ false = grind (arith, common_steps) in
+    let few : nat_lt ARRAY_BYTES (length bytes) ≡ false = grind (arith, common_steps) in
     let zero_long : (length bytes == 0) ≡ true = grind (arith, common_steps) in
     answered t (calls.Create bytes) (replies.Created 0) p mid q b e (ap (λ (m : Machine). phases_in m.past) (e no_tally))
-    (λ sc c. ap (λ r. begin_call sc false (with_tasked (state_of p c) t (begun_one (tasked (state_of p c) t))) t (calls.Create bytes) r) (no_bytes _ t bytes few zero_long (seen (state_of p c))) ∙ rw zero_long refl)
+    (λ sc c. ap (λ r. begin_call sc false (with_tasked (state_of p c) t (begun_one (tasked (state_of p c) t))) t (calls.Create bytes) r) (no_bytes sc.version _ t bytes few zero_long (seen (state_of p c))) ∙ rw zero_long refl)
 
 -- a create that begins a frame
-pub serves_made : (t : ℕ) (bytes : List ℕ) (p mid q : Plain) → IsBegun p t mid → 0 < length bytes → length bytes ≤ 5120
+pub serves_made : (t : ℕ) (bytes : List ℕ) (p mid q : Plain) → IsBegun p t mid → 0 < length bytes → length bytes ≤ ARRAY_BYTES
     → Goes t (calls.Create bytes) mid (left_with (Some None) 0 None) q (left_with None 0 None) → Serves t (calls.Create bytes) p q
 serves_made t bytes p mid q b some few g = record {
   phases = g.phases ∙ begun_phases p t mid b;
@@ -90,13 +94,13 @@ serves_made t bytes p mid q b some few g = record {
         ≡ left_in mid c t (left_with (Some None) 0 None)
     opens sc c =
         let a : (length bytes == 0) ≡ false = grind (arith, common_steps) in
-        let d : nat_lt 5120 (length bytes) ≡ false = grind (arith, common_steps) in
+        let d : nat_lt ARRAY_BYTES (length bytes) ≡ false = grind (arith, common_steps) in
         rw (a, d) (ap (λ m. with_frame m t (Some (frame_with (Some (user_voucher None)) 0 []))) (sym (b.state c)))
 
 -- A drop of a name.
 
 abbrev reply_of_handles : Option Handles → Reply
-reply_of_handles None = refused (pos 15)
+reply_of_handles None = refused KERN_INVALID_NAME
 reply_of_handles (Some v) = replies.Done
 
 reply_seen : (live : List Living) (names : List Named) (name : ℕ) → given_up (store.voucher_of (map (named_of live) names) name) ≡ reply_of_handles (handles_of names name)
@@ -109,7 +113,8 @@ reply_seen live (n ∷ names) name = by_test (n.name == name) (reply_seen live n
     by_test false e = e
 
 begun_names : (m : Machine) (t : ℕ) → (tasked (with_tasked m t (begun_one (tasked m t))) t).names ≡ (tasked m t).names
-begun_names m t = by_place m.tasks (t - 1)
+begun_names m zero = refl
+begun_names m (suc i) = by_place m.tasks i
   where
     by_place : (xs : List Tasked) (i : ℕ) → (get_or (set xs i (begun_one (get_or xs i idle))) i idle).names ≡ (get_or xs i idle).names
     by_place [] i = refl
@@ -129,7 +134,7 @@ left_seen p c (Some h) = by_test (is_named p h)
   where
     by_test : (b : Bool) → cond b [] (places (user_voucher h)) ≡ item keys.User (cond b None h)
     by_test true = refl
-    by_test false = refl
+    by_test false = user_places h
 
 pub serves_dropped : (t : ℕ) (name : ℕ) (p mid q r : Plain) (left : Option ℕ) → IsBegun p t mid → IsLost mid t name left q
     → Goes t (calls.GiveUp name) q (left_with None 0 left) r (left_with None 0 None) → Serves t (calls.GiveUp name) p r
@@ -165,7 +170,7 @@ serves_dropped t name p mid q r left b lost g = record {
         names_kept : (c : Tally) → (tasked (state_of p c) t).names ≡ names_at mid t
         names_kept c = sym (begun_names (state_of p c) t) ∙ ap (λ (m : Machine). (tasked m t).names) (sym (b.state c))
 
-    drops : (sc : Scenario) (c : Tally) → t - 1 < length lost.1.tasks.items
+    drops : (sc : Scenario) (c : Tally) → IsAmong t lost.1.tasks.items
         → begin_call sc false (with_tasked (state_of p c) t (begun_one (tasked (state_of p c) t))) t (calls.GiveUp name) (store_reply sc (state_of p c) t (calls.GiveUp name)) ≡ left_in q c t (left_with None 0 left)
     drops sc c within =
         ap (λ m. dropped m t (calls.GiveUp name) (store_reply sc (state_of p c) t (calls.GiveUp name)) (handles_of (tasked m t).names name) name) (sym (b.state c))

@@ -1,7 +1,8 @@
 -- A create goes on by its next record.
-use Rattle.std.proofs.Common.{Bor, ◌≡◌, ℕ, ◌+◌, ◌-◌, ◌<◌, ◌==◌, nat_lt, Bool, true, false, List, refl, arith, sym, ◌∙◌, subst, length, take, drop, cond, inl, inr, Option, Some, None, pos}
+use Rattle.std.proofs.Common.{Bor, ◌≡◌, ℕ, ◌+◌, ◌-◌, ◌<◌, ◌==◌, nat_lt, Bool, true, false, List, refl, arith, sym, ◌∙◌, subst, length, take, drop, cond, inl, inr, Option, Some, None}
 use Rattle.std.proofs.lemmas.Grind.{common_steps}
 use Rattle.std.proofs.lemmas.List.{length-drop}
+use Rattle.vch_base.specs.declared.codes.TheConstants.{KERN_INVALID_ARGUMENT}
 use Rattle.vch_recipe.specs.Recipes.{First, One, End, HeaderCut, ContentCut, first_of, word_at}
 use Rattle.vch_recipe.specs.Step.{Answers}
 use Rattle.vch_recipe.specs.declared.recipe.Recipe.{Recipe}
@@ -11,7 +12,7 @@ use Rattle.vch_model.specs.Legal.{asks}
 use Rattle.vch_model.specs.UserOnly.{AsksUserOnly}
 use Rattle.vch_model.specs.declared.call.Call.TheVariants as calls
 use Rattle.vch_machine.specs.Next.{known_name}
-use Rattle.vch_legal.proofs.RecordPlaces.{record_place, asks_behind}
+use Rattle.vch_legal.proofs.CallerLemmas.{record_place, asks_behind}
 use Rattle.vch_plain.specs.Calls.{Goes, left_with}
 use Rattle.vch_plain.specs.Creates.{names_at, reply_of, IsRefused, IsGiven, IsAsked, IsWorked, IsStep}
 use Rattle.vch_plain.specs.declared.create.Went.{Went}
@@ -30,14 +31,14 @@ not_end b l e = by_tests (nat_lt (length b) 16) (nat_lt (length (drop 16 b)) (wo
     by_tests false false k = cc
 
 pub steps_cut : (t : ℕ) (bytes : List ℕ) (p : Plain) (at : ℕ) (handle : Option ℕ) (q : Plain) → at < length bytes
-    → ((r : Recipe) (rest : List ℕ) → first_of (drop at bytes) ≡ One r rest → ⊥) → IsRefused p t (pos 4) q → IsStep t bytes p at handle None q
+    → ((r : Recipe) (rest : List ℕ) → first_of (drop at bytes) ≡ One r rest → ⊥) → IsRefused p t KERN_INVALID_ARGUMENT q → IsStep t bytes p at handle None q
 steps_cut t bytes p at handle q inside cut noting = by_first (first_of (drop at bytes)) refl
   where
     by_first : (f : First) → first_of (drop at bytes) ≡ f → IsStep t bytes p at handle None q
     by_first (One r rest) e = absurd (cut r rest e)
     by_first End e = absurd (not_end (drop at bytes) (let a : length (drop at bytes) ≡ length bytes - at = length-drop at bytes in omega (arith, a, inside)) e)
-    by_first (HeaderCut left) e = work_refused p t bytes at handle q (pos 4) (rw e refl) (rw e refl) noting
-    by_first (ContentCut wanted left) e = work_refused p t bytes at handle q (pos 4) (rw e refl) (rw e refl) noting
+    by_first (HeaderCut left) e = work_refused p t bytes at handle q KERN_INVALID_ARGUMENT (rw e refl) (rw e refl) noting
+    by_first (ContentCut wanted left) e = work_refused p t bytes at handle q KERN_INVALID_ARGUMENT (rw e refl) (rw e refl) noting
 
 module _ (t : ℕ) (bytes : List ℕ) (p : Plain) (at : ℕ) (handle : Option ℕ) (r : Recipe) (rest : List ℕ) (next : ℕ) (first : first_of (drop at bytes) ≡ One r rest)
     (place : next + length rest ≡ length bytes) (inside : at < length bytes) (user : AsksUserOnly (drop at bytes)) where
@@ -54,13 +55,13 @@ module _ (t : ℕ) (bytes : List ℕ) (p : Plain) (at : ℕ) (handle : Option �
         subst (λ k. AsksUserOnly (drop k bytes)) (sym n) (asks_behind bytes at r rest first user),
       )
 
-  pub steps_worked : (o : Option Went) (q : Plain) → asks (known_name (names_at p t)) r ≡ false → IsWorked p t handle r next o q → IsStep t bytes p at handle o q
+  pub steps_worked : (o : Option Went) (q : Plain) → asks 1 (known_name (names_at p t)) r ≡ false → IsWorked p t handle r next o q → IsStep t bytes p at handle o q
   steps_worked None q a i = work_refused p t bytes at handle q i.0 (rw (first, a) refl) (rw first (i.1 rest)) i.2
   steps_worked (Some w) q a i =
       goes_on w q i.0 (subst (λ z. Goes t (calls.Create bytes) p (left_with (Some handle) at None) z (left_with (Some w.handle) (at + (16 + length r.content)) w.left)) (sym i.1)
       (rw first at (work_carried p t bytes at handle w.handle w.left (rw (first, a) refl) (rw first (i.2 rest)))))
 
-  pub steps_asked : (o : Option Went) (q : Plain) → asks (known_name (names_at p t)) r ≡ true → r.key ≡ 7 → IsAsked p t handle r next o q → IsStep t bytes p at handle o q
+  pub steps_asked : (o : Option Went) (q : Plain) → asks 1 (known_name (names_at p t)) r ≡ true → r.key ≡ 7 → IsAsked p t handle r next o q → IsStep t bytes p at handle o q
   steps_asked None q a k i = make_refused p t bytes at handle r rest first k a q i.0 i.1 i.2
   steps_asked (Some w) q a k i = goes_on w q i.0 (by_handle w.handle w.left i.1 i.2)
     where

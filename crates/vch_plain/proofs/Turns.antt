@@ -11,10 +11,7 @@ use Rattle.vch_machine.specs.Next.{call_in, nth_call}
 use Rattle.vch_machine.specs.Schedules.{first_waiting}
 use Rattle.vch_machine.specs.State.{Machine, tasked}
 use Rattle.vch_legal.specs.Facts.{bit, times}
-use Rattle.vch_legal.proofs.AtRest.{task_of}
-use Rattle.vch_legal.proofs.PhaseCounts.{lines_with_phase}
-use Rattle.vch_legal.proofs.PhaseLines.{no_lines}
-use Rattle.vch_legal.proofs.Turns.{count_cons, own_number}
+use Rattle.vch_legal.proofs.CallerLemmas.{task_of, lines_with_phase, no_lines, count_cons, own_number}
 
 abbrev of : ℕ → List Line → ℕ
 of t lines = times (λ (l : Line). l.task == t) lines
@@ -141,7 +138,7 @@ passes sc m seen x lines task p =
 passed_on : (sc : Scenario) (m : Machine) (seen : List ℕ) (x : Line) (lines : List Line) → Passed sc m seen (x ∷ lines) → Passed sc m (x.task ∷ seen) lines
 passed_on sc m seen x lines p = record { begun = λ t task. let a = p.begun t task in let b = count_cons t x.task seen in omega (arith, a, b) }
 
-pub waits : (sc : Scenario) (m : Machine) (seen : List ℕ) (lines rest : List Line) (line : Line) → AllByRecursion (IsIn (length sc.flags)) lines → is_task sc line.task ≡ true → Passed sc m seen lines
+pub waits : (sc : Scenario) (m : Machine) (seen : List ℕ) (lines rest : List Line) (line : Line) → AllByRecursion (IsIn sc.version (length sc.flags)) lines → is_task sc line.task ≡ true → Passed sc m seen lines
     → first_waiting sc m seen (lines ++ line ∷ rest) ≡ Some line.task
 waits sc m seen [] rest line all task p =
     let a = p.begun line.task task in
@@ -154,7 +151,7 @@ waits sc m seen [] rest line all task p =
 waits sc m seen (x ∷ lines) rest line all task p =
     rw (passes sc m seen x lines (task_of sc x.task all.0.0 all.0.1) p) (waits sc m (x.task ∷ seen) lines rest line all.1 task (passed_on sc m seen x lines p))
 
-pub waits_none : (sc : Scenario) (m : Machine) (seen : List ℕ) (lines : List Line) → AllByRecursion (IsIn (length sc.flags)) lines → Passed sc m seen lines → first_waiting sc m seen lines ≡ None
+pub waits_none : (sc : Scenario) (m : Machine) (seen : List ℕ) (lines : List Line) → AllByRecursion (IsIn sc.version (length sc.flags)) lines → Passed sc m seen lines → first_waiting sc m seen lines ≡ None
 waits_none sc m seen [] all p = refl
 waits_none sc m seen (x ∷ lines) all p =
     rw (passes sc m seen x lines (task_of sc x.task all.0.0 all.0.1) p) (waits_none sc m (x.task ∷ seen) lines all.1 (passed_on sc m seen x lines p))

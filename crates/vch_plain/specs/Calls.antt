@@ -1,5 +1,6 @@
 -- How a call goes on: the states of the event machine while it is under way, and the moves in turn between them.
-use Rattle.std.specs.Prelude.{◌≡◌, ℕ, ◌+◌, ◌-◌, nat_lt, true, List, [], length, map, reverse, slice_index_or, Option, Some, None}
+use Rattle.std.specs.Prelude.{◌≡◌, ℕ, ◌+◌, nat_lt, true, not, List, [], length, map, reverse, Option, Some, None, is_some}
+use Rattle.vch_base.specs.Tasks.{at_task}
 use Rattle.vch_base.specs.declared.key.Key.TheVariants as keys
 use Rattle.vch_model.specs.Lines.{is_task, phases_in}
 use Rattle.vch_model.specs.declared.call.Call.{Call}
@@ -27,16 +28,17 @@ phases_of p = phases_in (reverse p.history.entries)
 abbrev pub begins_of : Plain → List ℕ
 begins_of p = map (λ (x : Task). x.begun) p.tasks.items
 
--- this call of a task is under way, in a phase that has not ended
+-- this call of a task is under way, in a phase that has not ended, of a scenario of version 1
 pub record Under (sc : Scenario) (t : ℕ) (call : Call) (phases : ℕ) (begins : List ℕ) : Type 0 where
+  pub version : sc.version ≡ 1
   pub task : is_task sc t ≡ true
   pub long : length begins ≡ length sc.flags
   pub more : nat_lt phases (length sc.phases) ≡ true
-  pub nth : nth_call sc t (slice_index_or begins (t - 1) 0) ≡ Some call
+  pub nth : nth_call sc t (at_task begins t 0) ≡ Some call
 
--- a frame without a receipt and a claim
+-- a frame without a receipt and a claim, whose call is answered once it forms no voucher
 abbrev pub frame_with : Option Handles → ℕ → List Place → Frame
-frame_with forming at lets = record { forming = forming; at_byte = at; keys = []; receipt = None; lets = lets; claim = None }
+frame_with forming at lets = record { forming = forming; answered = not (is_some forming); at_byte = at; keys = []; receipt = None; lets = lets; claim = None }
 
 -- the state with what is left of a call
 abbrev pub in_call : Plain → Tally → ℕ → Option Handles → ℕ → List Place → Machine

@@ -1,6 +1,9 @@
 -- One record of a create, as the code answers it.
-use Rattle.std.specs.Prelude.{◌≡◌, ◌<◌, ◌≤◌, ◌-◌, ℕ, Bool, if◌then◌else◌, List, drop, length, map, slice_index_or, Option, Some, None, Result, Ok, Err, ℤ, pos}
+use Rattle.std.specs.Prelude.{◌≡◌, ◌<◌, ◌≤◌, ℕ, Bool, if◌then◌else◌, List, drop, length, map, Option, Some, None, Result, Ok, Err, ℤ}
 use Rattle.std.specs.List.{list_any}
+use Rattle.vch_base.specs.Keyed.{of_key}
+use Rattle.vch_base.specs.Tasks.{at_task}
+use Rattle.vch_base.specs.declared.codes.TheConstants.{KERN_INVALID_NAME}
 use Rattle.vch_base.specs.declared.key.Key.TheVariants as keys
 use Rattle.vch_base.specs.declared.value.Value.{Value}
 use Rattle.vch_recipe.specs.Recipes.{One}
@@ -17,7 +20,7 @@ use Rattle.vch_model.specs.declared.entry.Reply.TheVariants as replies
 use Rattle.vch_machine.specs.Frames.{noted}
 use Rattle.vch_machine.specs.Making.{previous_of}
 use Rattle.vch_machine.specs.Naming.{item, handles_of, name_for, name_of, one_less, task_knows, with_name}
-use Rattle.vch_machine.specs.State.{Named, Tally, Tasked, idle, of_key, tasked, value_at, with_tasked}
+use Rattle.vch_machine.specs.State.{Named, Tally, Tasked, idle, tasked, value_at, with_tasked}
 use Rattle.vch_machine.specs.Working.{work_first}
 use Rattle.vch_plain.specs.Calls.{Goes, begins_of, left_with}
 use Rattle.vch_plain.specs.Making.{IsHanded}
@@ -27,11 +30,11 @@ use Rattle.vch_plain.specs.declared.state.Plain.{Plain}
 
 -- the names of a task, in the machine
 abbrev pub names_at : Plain → ℕ → List Named
-names_at p t = (slice_index_or (map task_of p.tasks.items) (t - 1) idle).names
+names_at p t = (at_task (map task_of p.tasks.items) t idle).names
 
 -- the entry of a create that is refused
 abbrev pub create_refused : Plain → ℕ → ℤ → Entry
-create_refused p t code = entries.Call t (slice_index_or (begins_of p) (t - 1) 0) words.Create (refused code)
+create_refused p t code = entries.Call t (at_task (begins_of p) t 0) words.Create (refused code)
 
 -- a create was refused, and nothing else happened
 abbrev pub IsRefused : Plain → ℕ → ℤ → Plain → Type 0
@@ -55,10 +58,10 @@ IsAsked p t handle r next (Some w) q = (w.next ≡ next) × (w.left ≡ handle) 
 -- a record that asks none
 abbrev pub IsWorked : Plain → ℕ → Option ℕ → Recipe → ℕ → Option Went → Plain → Type 0
 IsWorked p t handle r next None q =
-    (code : ℤ) × ((rest : List ℕ) → work_first (names_at p t) (One r rest) (user_voucher handle) ≡ Err code) × IsRefused p t code q
+    (code : ℤ) × ((rest : List ℕ) → work_first 1 (names_at p t) (One r rest) (user_voucher handle) ≡ Err code) × IsRefused p t code q
 IsWorked p t handle r next (Some w) q =
     (w.next ≡ next) × (q ≡ p)
-    × ((rest : List ℕ) → work_first (names_at p t) (One r rest) (user_voucher handle) ≡ Ok (record { forming = user_voucher w.handle; left = item keys.User w.left }))
+    × ((rest : List ℕ) → work_first 1 (names_at p t) (One r rest) (user_voucher handle) ≡ Ok (record { forming = user_voucher w.handle; left = item keys.User w.left }))
 
 -- a create goes on by its next record, or is refused there
 abbrev pub IsStep : ℕ → List ℕ → Plain → ℕ → Option ℕ → Option Went → Plain → Type 0
@@ -85,7 +88,7 @@ IsFinished p t handle left q =
     (mid : Plain) × (left ≡ left_if (is_named p handle) handle)
     × ((c : Tally) → state_of mid c ≡ with_tasked (state_of p c) t (given_name handle (tasked (state_of p c) t)))
     × ((c : Tally) → state_of q c ≡ noted (state_of mid c)
-    (entries.Call t (slice_index_or (begins_of mid) (t - 1) 0) words.Create (replies.Created (name_for (tasked (state_of p c) t) (name_of (tasked (state_of p c) t).names (user_voucher handle))))))
+    (entries.Call t (at_task (begins_of mid) t 0) words.Create (replies.Created (name_for (tasked (state_of p c) t) (name_of (tasked (state_of p c) t).names (user_voucher handle))))))
 
 -- the task with one reference less to a name
 abbrev pub lost_name : ℕ → Tasked → Tasked
@@ -97,7 +100,7 @@ left_of p None = None
 left_of p (Some handle) = if is_named p handle then None else handle
 
 abbrev pub reply_found : Option (Option ℕ) → Reply
-reply_found None = refused (pos 15)
+reply_found None = refused KERN_INVALID_NAME
 reply_found (Some handle) = replies.Done
 
 -- a name of a task lost a reference, which was answered, and this is left to be let go; mid is after the reference went
@@ -106,4 +109,4 @@ IsLost p t name left q =
     (found : Option (Option ℕ)) × (mid : Plain) × (option_voucher found ≡ handles_of (names_at p t) name)
     × ((c : Tally) → state_of mid c ≡ with_tasked (state_of p c) t (lost_name name (tasked (state_of p c) t)))
     × (left ≡ left_of mid found)
-    × ((c : Tally) → state_of q c ≡ noted (state_of mid c) (entries.Call t (slice_index_or (begins_of mid) (t - 1) 0) words.GiveUp (reply_found found)))
+    × ((c : Tally) → state_of q c ≡ noted (state_of mid c) (entries.Call t (at_task (begins_of mid) t 0) words.GiveUp (reply_found found)))

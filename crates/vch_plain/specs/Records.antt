@@ -1,9 +1,11 @@
 -- Records that ask no manager, on a map of user data alone.
-use Rattle.std.specs.Prelude.{ℕ, Bool, true, false, ◌==◌, if◌then◌else◌, [], Option, Some, None, Result, Ok, Err, ℤ, pos}
+use Rattle.std.specs.Prelude.{ℕ, Bool, true, false, ◌==◌, if◌then◌else◌, [], Option, Some, None, Result, Ok, Err, ℤ}
 use Rattle.vch_base.specs.Keys.{key_of}
+use Rattle.vch_base.specs.declared.codes.TheConstants.{KERN_INVALID_ARGUMENT}
 use Rattle.vch_base.specs.declared.fault.Code.{Code}
 use Rattle.vch_base.specs.declared.key.Key.{Key}
 use Rattle.vch_base.specs.declared.key.Key.TheVariants as keys
+use Rattle.vch_base.specs.declared.key.TheConstants.{ALL_KEYS}
 use Rattle.vch_machine.specs.Naming.{item}
 use Rattle.vch_machine.specs.Working as working
 use Rattle.vch_plain.specs.States.{user_voucher}
@@ -19,14 +21,15 @@ worked_of (Ok w) = Ok (record { forming = user_voucher w.handle; left = item key
 worked_of (Err code) = Err code.number
 
 abbrev pub key_touches : Option Key → Result Bool ℤ
-key_touches None = Err (pos 4)
+key_touches None = Err KERN_INVALID_ARGUMENT
 key_touches (Some keys.User) = Ok true
 key_touches (Some keys.Importance) = Ok false
 key_touches (Some keys.Bank) = Ok false
+key_touches (Some keys.Test) = Ok false
 
--- whether a change at a key is one of user data
+-- whether a change at a key of version 1 is one of user data
 abbrev pub touches : ℕ → Result Bool ℤ
-touches key = if key == 4294967295 then Ok true else key_touches (key_of key)
+touches key = if key == ALL_KEYS then Ok true else key_touches (key_of 1 key)
 
 abbrev pub touched_of : Result Bool Code → Result Bool ℤ
 touched_of (Ok b) = Ok b

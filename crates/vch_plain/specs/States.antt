@@ -1,5 +1,6 @@
 -- The states of the event machine that plain lists stand for: of user data alone, with one call under way at most.
 use Rattle.std.specs.Prelude.{ℕ, List, [], ◌∷◌, map, reverse, Option, Some, None}
+use Rattle.vch_base.specs.Keyed.{everywhere}
 use Rattle.vch_base.specs.declared.key.Key.TheVariants as keys
 use Rattle.vch_base.specs.declared.value.Value.TheVariants as values
 use Rattle.vch_machine.specs.State as machine
@@ -15,7 +16,7 @@ user_place h = record { key = keys.User; handle = h }
 
 -- a voucher of user data or of nothing
 abbrev pub user_voucher : Option ℕ → Handles
-user_voucher h = record { importance = None; bank = None; user = h }
+user_voucher h = record (everywhere None) { user = h }
 
 -- the same where there may be no voucher
 abbrev pub option_voucher : Option (Option ℕ) → Option Handles
@@ -50,6 +51,7 @@ state_of p counted = record {
     importance = record { free = []; used = 0 };
     bank = record { free = []; used = 1 };
     user = pool_of p.free.items p.used;
+    test = record { free = []; used = 0 };
   };
   tasks = map task_of p.tasks.items;
   past = reverse p.history.entries;

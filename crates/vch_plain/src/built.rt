@@ -1,10 +1,11 @@
 ghost use Rattle.std.specs.Prelude.{◌≡◌, ◌↔◌, ℕ, List, IsTrue};
 ghost use Rattle.vch_model.specs.UserOnly as user;
 ghost use Rattle.vch_model.specs.UserOnly.{AsksUserOnly, IsUserCall, IsUserOnly};
-ghost use Rattle.vch_plain.specs.Built.{AreUserLines};
+ghost use Rattle.vch_plain.specs.Built.{AreUserLines, AreUserPhases};
 
+use crate::state::VERSION;
 use vch_base::ALL_KEYS;
-use vch_model::{Call, LineList, Scenario};
+use vch_model::{Call, LineList, PhaseList, Scenario};
 use vch_recipe::{Step, next_recipe};
 
 /// Whether a record asks another manager than that of user data.
@@ -57,15 +58,22 @@ fn are_user_lines(lines: &LineList) -> bool
     true
 }
 
-/// Whether `play_plain` can run a scenario: each of its calls is a drop, or a create whose records ask no manager but that
-/// of user data. The time is linear in the size of the scenario.
-pub fn is_user_only(scenario: &Scenario) -> bool
-    ensures { IsTrue result ↔ IsUserOnly scenario.now }
+/// Whether `play_plain` can run all phases.
+fn are_user_phases(phases: &PhaseList) -> bool
+    ensures { IsTrue result ↔ AreUserPhases phases.now }
 {
-    for i in 0..scenario.phases.len() {
-        if !are_user_lines(scenario.phases.at(i)) {
+    for i in 0..phases.len() {
+        if !are_user_lines(phases.at(i)) {
             return false;
         }
     }
     true
+}
+
+/// Whether `play_plain` can run a scenario: it is of version 1, and each of its calls is a drop, or a create whose records
+/// ask no manager but that of user data. The time is linear in the size of the scenario.
+pub fn is_user_only(scenario: &Scenario) -> bool
+    ensures { IsTrue result ↔ IsUserOnly scenario.now }
+{
+    scenario.version == VERSION && are_user_phases(&scenario.phases)
 }

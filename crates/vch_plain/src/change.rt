@@ -1,7 +1,8 @@
-ghost use Rattle.std.specs.Prelude.{◌≡◌, ◌<◌, ◌≤◌, ◌-◌, length, slice_index_or, OnOk, IfOk};
+ghost use Rattle.std.specs.Prelude.{◌≡◌, ◌<◌, ◌≤◌, length, OnOk, IfOk};
+ghost use Rattle.vch_base.specs.Tasks.{at_task};
 ghost use Rattle.vch_base.specs.declared.key.Key.TheVariants as keys;
 ghost use Rattle.vch_base.specs.declared.value.Value.TheVariants as values;
-ghost use Rattle.vch_machine.specs.State.{Tally, tasked, with_tasked, of_key};
+ghost use Rattle.vch_machine.specs.State.{Tally, tasked, with_tasked};
 ghost use Rattle.vch_machine.specs.Beginning.{begun_one};
 ghost use Rattle.vch_machine.specs.Frames.{noted};
 ghost use Rattle.vch_machine.specs.Leaving.{released};
@@ -22,7 +23,7 @@ use vch_model::{Entry, Reply, Word};
 pub fn answer(plain: &mut Plain, task: u32, word: Word, reply: Reply) -> Result<(), NoMemory>
     requires task { (1 ≤ task) × (task ≤ length plain.old.tasks.items) }
     ensures long { OnOk result (length plain.new.tasks.items ≡ length plain.old.tasks.items) }
-    ensures state { (counted : Tally) → OnOk result (state_of plain.new counted ≡ noted (state_of plain.old counted) (Entry.Call task (slice_index_or (begins_of plain.old) (task - 1) 0) word reply)) }
+    ensures state { (counted : Tally) → OnOk result (state_of plain.new counted ≡ noted (state_of plain.old counted) (Entry.Call task (at_task (begins_of plain.old) task 0) word reply)) }
 {
     let number = narrow(plain.tasks[task as usize - 1].begun)?;
     plain.history.reserve(1)?;

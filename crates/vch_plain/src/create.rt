@@ -13,6 +13,7 @@ use crate::numbers::narrow;
 use crate::record::{asks_user, work};
 use crate::state::{Named, Plain};
 use std::alloc::Global;
+use vch_base::codes::KERN_INVALID_ARGUMENT;
 use vch_base::{Code, NoMemory};
 use vch_model::{Reply, Word};
 use vch_recipe::{Step, next_recipe};
@@ -130,7 +131,7 @@ fn step(
             }
         }
         _ => {
-            refuse(plain, task, Code::of(4))?;
+            refuse(plain, task, Code::of(KERN_INVALID_ARGUMENT))?;
             Ok(None)
         }
     }

@@ -5,6 +5,7 @@ use crate::change::{answer, drop_name};
 use crate::create::names;
 use crate::names::{knows, voucher_of};
 use crate::state::Plain;
+use vch_base::codes::KERN_INVALID_NAME;
 use vch_base::{Code, NoMemory};
 use vch_model::{Reply, Word};
 
@@ -26,7 +27,9 @@ fn reply(found: Option<Option<u64>>) -> Reply
 {
     match found {
         Some(_) => Reply::Done,
-        None => Reply::Refused { code: Code::of(15) },
+        None => Reply::Refused {
+            code: Code::of(KERN_INVALID_NAME),
+        },
     }
 }
 

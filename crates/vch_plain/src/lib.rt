@@ -1,7 +1,8 @@
 //! A run of a scenario in turn, on plain lists.
 //!
-//! The scenario's calls are creates and drops of user data, of any number of tasks and in any number of phases. In turn a
-//! call is done before the next one begins, so at most one call is under way, and nothing of it is kept between calls.
+//! The scenario is of version 1, and its calls are creates and drops of user data, of any number of tasks and in any number
+//! of phases. In turn a call is done before the next one begins, so at most one call is under way, and nothing of it is kept
+//! between calls.
 //!
 //! **The one invariant**: the lists stand for a state of the event machine (`state_of`), and the run in turn leads there from
 //! its start. **What is looked for**: whether a value is held is found by going through the names of all tasks, each time

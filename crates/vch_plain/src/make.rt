@@ -12,13 +12,9 @@ use crate::names::voucher_of;
 use crate::state::{Living, Named, Plain};
 use crate::values::find;
 use std::alloc::Global;
+use vch_base::codes::KERN_INVALID_ARGUMENT;
+use vch_base::commands::{REDEEM, USER_DATA_STORE};
 use vch_base::{Code, NoMemory};
-
-/// The command that stores user data. Its number is the kernel release's.
-const STORE: u32 = 211;
-
-/// The command that gives the previous value again. Its number is the kernel release's.
-const REDEEM: u32 = 10;
 
 /// What the manager of user data gives: the handle of a value, no value, or a code.
 #[derive(Clone, Copy, Debug)]
@@ -86,12 +82,14 @@ pub fn make(
 ) -> Result<Made, NoMemory>
     ensures { (t : ℕ) → IfOk result (λ made. IsMade (answer_to keys.User t command (value_at (live_of plain.old.live.items) keys.User previous) content.now) plain.old made plain.new) }
 {
-    if command == STORE {
+    if command == USER_DATA_STORE {
         let handle = stored(plain, alloc, content)?;
         return Ok(Made::Handle { handle });
     }
     if command == REDEEM && content.is_empty() {
         return Ok(redeemed(plain.live.as_slice(), previous));
     }
-    Ok(Made::Refused { code: Code::of(4) })
+    Ok(Made::Refused {
+        code: Code::of(KERN_INVALID_ARGUMENT),
+    })
 }

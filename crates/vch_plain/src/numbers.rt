@@ -2,7 +2,7 @@ ghost use Rattle.std.specs.Prelude.{◌≡◌, ◌+◌, IfOk};
 
 use vch_base::NoMemory;
 
-/// The number after a number. One that does not fit counts things that no memory has room for, so it is a want of memory.
+/// The number after a number. One that does not fit counts things that no memory has room for, so it is out of memory.
 pub fn after(n: u64) -> Result<u64, NoMemory>
     ensures { IfOk result (λ next. next ≡ n + 1) }
 {

@@ -84,7 +84,7 @@ fn play_phase(
 }
 
 /// The history of a scenario in turn, on plain lists and with every holder looked for among all names: no counts and no
-/// tables. The one error is want of memory, or of a number for what is counted; no call is answered it.
+/// tables. The one error is out of memory, or of a number for what is counted; no call is answered it.
 ///
 /// It takes, for each value that is let go, time linear in the number of all names.
 pub fn play_plain(alloc: Global, scenario: &Scenario) -> Result<History, NoMemory>

@@ -9,7 +9,9 @@ ghost use Rattle.vch_plain.specs.States.{names_of, option_voucher, user_voucher}
 ghost use Rattle.vch_plain.specs.Records.{worked_of, fresh_work, touches, touched_of};
 
 use crate::names::voucher_of;
-use crate::state::Named;
+use crate::state::{Named, VERSION};
+use vch_base::codes::{KERN_INVALID_ARGUMENT, KERN_INVALID_CAPABILITY, KERN_NO_ACCESS};
+use vch_base::commands::{AUTO_REDEEM, COPY, NOOP, REMOVE, SEND_PREPROCESS, SET_VALUE_HANDLE};
 use vch_base::{ALL_KEYS, Code, Key};
 
 /// What a record without a manager makes of a map: the handle in it, and the one that left it.
@@ -26,10 +28,10 @@ fn touches(key: u32) -> Result<bool, Code>
     if key == ALL_KEYS {
         return Ok(true);
     }
-    match Key::of(key) {
+    match Key::of(key, VERSION) {
         Some(Key::User) => Ok(true),
         Some(_) => Ok(false),
-        None => Err(Code::of(4)),
+        None => Err(Code::of(KERN_INVALID_ARGUMENT)),
     }
 }
 
@@ -52,7 +54,7 @@ fn kept(handle: Option<u64>) -> Worked
 
 /// COPY: the map takes what the previous voucher has at the key.
 fn copied(key: u32, previous: Option<Option<u64>>, handle: Option<u64>) -> Result<Worked, Code>
-    ensures { worked_of result ≡ working.copied (option_voucher previous) key (fresh_work handle) }
+    ensures { worked_of result ≡ working.copied 1 (option_voucher previous) key (fresh_work handle) }
 {
     let Some(given) = previous else {
         return Ok(kept(handle));
@@ -76,7 +78,7 @@ fn loses(previous: Option<Option<u64>>, handle: Option<u64>) -> bool
 
 /// REMOVE: the map loses what it has at the key.
 fn removed(key: u32, previous: Option<Option<u64>>, handle: Option<u64>) -> Result<Worked, Code>
-    ensures { worked_of result ≡ working.changed_keys (working.removes (option_voucher previous) (user_voucher handle)) key (fresh_work handle) }
+    ensures { worked_of result ≡ working.changed_keys 1 (working.removes (option_voucher previous) (user_voucher handle)) key (fresh_work handle) }
 {
     if touches(key)? && loses(previous, handle) {
         Ok(changed(None, handle))
@@ -93,15 +95,15 @@ fn carried(
     content: &[u8],
     handle: Option<u64>,
 ) -> Result<Worked, Code>
-    ensures { (named : ℕ) → worked_of result ≡ working.worked (record { key = key; command = command; previous = named; content = content.now }) (option_voucher previous) (fresh_work handle) }
+    ensures { (named : ℕ) → worked_of result ≡ working.worked 1 (record { key = key; command = command; previous = named; content = content.now }) (option_voucher previous) (fresh_work handle) }
 {
     match command {
-        3 | 4 | 5 => Err(Code::of(8)),
-        0 | 1 | 2 if !content.is_empty() => Err(Code::of(4)),
-        0 => Ok(kept(handle)),
-        1 => copied(key, previous, handle),
-        2 => removed(key, previous, handle),
-        _ => Err(Code::of(4)),
+        SET_VALUE_HANDLE | AUTO_REDEEM | SEND_PREPROCESS => Err(Code::of(KERN_NO_ACCESS)),
+        NOOP | COPY | REMOVE if !content.is_empty() => Err(Code::of(KERN_INVALID_ARGUMENT)),
+        NOOP => Ok(kept(handle)),
+        COPY => copied(key, previous, handle),
+        REMOVE => removed(key, previous, handle),
+        _ => Err(Code::of(KERN_INVALID_ARGUMENT)),
     }
 }
 
@@ -114,14 +116,14 @@ pub fn work(
     content: &[u8],
     handle: Option<u64>,
 ) -> Result<Worked, Code>
-    ensures { (rest : List ℕ) → worked_of result ≡ working.work_first (names_of names.now) (One (record { key = key; command = command; previous = previous; content = content.now }) rest) (user_voucher handle) }
+    ensures { (rest : List ℕ) → worked_of result ≡ working.work_first 1 (names_of names.now) (One (record { key = key; command = command; previous = previous; content = content.now }) rest) (user_voucher handle) }
 {
     if previous == 0 {
         return carried(key, command, None, content, handle);
     }
     match voucher_of(names, u64::from(previous)) {
         Some(given) => carried(key, command, Some(given), content, handle),
-        None => Err(Code::of(20)),
+        None => Err(Code::of(KERN_INVALID_CAPABILITY)),
     }
 }
 
@@ -129,7 +131,7 @@ pub fn work(
 pub fn asks_user(names: &[Named], key: u32, command: u32, previous: u32) -> bool
     ensures user { result ≡ true → key ≡ 7 }
     ensures asks { (content : List ℕ) → asks_other (record { key = key; command = command; previous = previous; content = content }) ≡ false
-        → result ≡ asks (known_name (names_of names.now)) (record { key = key; command = command; previous = previous; content = content }) }
+        → result ≡ asks 1 (known_name (names_of names.now)) (record { key = key; command = command; previous = previous; content = content }) }
 {
     (previous == 0 || voucher_of(names, u64::from(previous)).is_some()) && command > 5 && key == 7
 }

@@ -9,14 +9,10 @@ use crate::give_back::let_go;
 use crate::give_up::lose;
 use crate::state::Plain;
 use std::alloc::Global;
+use vch_base::codes::MIG_ARRAY_TOO_LARGE;
+use vch_base::limits::ARRAY_BYTES;
 use vch_base::{Code, NoMemory};
 use vch_model::{Call, Reply, Word};
-
-/// The most bytes of a recipe array. The limit is the kernel release's.
-const MOST_BYTES: usize = 5120;
-
-/// The code of a recipe array that is too long.
-const TOO_LONG: i32 = -307;
 
 /// A task makes a voucher of a recipe array. No bytes make no voucher, whose name is 0.
 fn create(plain: &mut Plain, alloc: Global, task: u32, bytes: &[u8]) -> Result<(), NoMemory>
@@ -25,8 +21,8 @@ fn create(plain: &mut Plain, alloc: Global, task: u32, bytes: &[u8]) -> Result<(
     ensures { OnOk result (Serves task (calls.Create bytes.now) plain.old plain.new) }
 {
     begin(plain, task)?;
-    if bytes.len() > MOST_BYTES {
-        let code = Code::of(TOO_LONG);
+    if bytes.len() > ARRAY_BYTES {
+        let code = Code::of(MIG_ARRAY_TOO_LARGE);
         return answer(plain, task, Word::Create, Reply::Refused { code });
     }
     if bytes.is_empty() {

@@ -1,6 +1,9 @@
 use vch_base::Bytes;
 use vch_model::History;
 
+/// The version of the scenarios that are played here.
+pub const VERSION: u32 = 1;
+
 /// A live value: its handle, its bytes, and the number of its Made entry.
 #[derive(Drop)]
 pub struct Living {

@@ -1,4 +1,5 @@
 -- Ask keeps all that the parts stand for.
+use Rattle.vch_base.specs.Tasks.{set_task}
 use Rattle.std.proofs.Common.{◌≡◌, ◌≢◌, ℕ, zero, suc, ◌+◌, ◌-◌, ◌<◌, ◌≤◌, not, Bool, true, false, cond, List, [], ◌∷◌, ◌++◌, refl, arith, sym, ap, ◌∙◌, length, reverse, get_or, subst, Option, Some, None, inl, inr}
 use Rattle.std.specs.Prelude.{if◌then◌else◌}
 use Rattle.std.specs.List.{count_by}
@@ -18,30 +19,33 @@ use Rattle.vch_value.specs.Flight as flight
 use Rattle.vch_value.specs.Flight.{Asked}
 use Rattle.vch_value.specs.Picture as picture
 use Rattle.vch_value.specs.Picture.{Picture, Claimed, with_claims}
-use Rattle.vch_value.proofs.Lists.{test_other}
+use Rattle.vch_value.proofs.CallerLemmas.{test_other}
 use Rattle.vch_model.specs.declared.entry.Entry.TheVariants as entries
 use Rattle.vch_model.specs.declared.lists.Scenario.{Scenario}
 use Rattle.vch_model.specs.Lines.{phases_in}
 use Rattle.vch_machine.specs.State as machine
-use Rattle.vch_machine.specs.State.{of_key, with_key, Handles, Place, same_place, Living, Machine, Tasked, tasked, living_at, without_place}
+use Rattle.vch_base.specs.Keyed.{of_key}
+use Rattle.vch_machine.specs.State.{Handles, Place, same_place, Living, Machine, Tasked, tasked, living_at, without_place}
 use Rattle.vch_machine.specs.Frames as frames
 use Rattle.vch_machine.specs.Leaving.{released, do_ask, more_free, made_of, one_ask}
 use Rattle.vch_machine.specs.Next.{current}
 use Rattle.vch_legal.specs.Facts.{Fits}
-use Rattle.vch_legal.proofs.AskSpots.{without_here, without_other}
+use Rattle.vch_legal.proofs.CallerLemmas.{without_here, without_other}
 use Rattle.vch_state.specs.declared.frame.Frame.{Frame}
 use Rattle.vch_state.specs.declared.frame.Claiming.{Claiming}
 use Rattle.vch_state.specs.declared.frame.KeyIndex.{KeyIndex}
 use Rattle.vch_state.specs.Plain.{Plain, KeyParts, part_of, number_at}
 use Rattle.vch_state.specs.Shape.{Shape, IsIndexOf, IsFrame, IsTask, slots_of}
-use Rattle.vch_state.specs.Pictures.{picture_of, claimed, same_key}
+use Rattle.vch_state.specs.Pictures.{picture_of, claimed}
+use Rattle.vch_base.specs.Keys.{same_key}
 use Rattle.vch_state.specs.Bounds.{rank, makes, open_of, flying_of, in_all, unanswered_in}
 use Rattle.vch_state.specs.Stands.{StandsFor, IsLiving}
 use Rattle.vch_state.specs.Moves.{with_values, with_frame_at, one_asked, noted_release, less_room}
 use Rattle.vch_state.proofs.Stable.{task_stays, frame_stays}
 use Rattle.vch_state.proofs.Replaced.{claims_before, claims_behind, shape_then, framed}
 use Rattle.vch_state.proofs.Spending.{spent_then, unanswered_then, begun_then, open_then, work_same, makes_same}
-use Rattle.vch_state.proofs.Keys.{of_with, same_key_refl, each_key, cells_same}
+use Rattle.vch_state.proofs.Keys.{of_with, each_key, cells_same}
+use Rattle.vch_state.proofs.KeyCases.{same_key_refl}
 use Rattle.vch_state.proofs.LetsGo.{leaving_frame, leaving_machine}
 use Rattle.vch_state.proofs.OneClaim as one
 
@@ -127,10 +131,10 @@ module _ (sc : Scenario) (k : Key) (c : Plain) (m : Machine) (t : ℕ) (positive
   inside_tasks : t - 1 < length m.tasks
   inside_tasks = omega (arith, s.shape.long, inside)
 
-  tasks_are : then_machine.tasks ≡ set m.tasks (t - 1) (framed (tasked m t) (Some G2))
+  tasks_are : then_machine.tasks ≡ set_task m.tasks t (framed (tasked m t) (Some G2))
   tasks_are = by b
     where
-      by : (b : Bool) → (asked_machine m t (leaving_machine w place keys rest (Some y)) y b).tasks ≡ set m.tasks (t - 1) (framed (tasked m t) (Some (leaving_machine w place keys rest (Some (record y { answer = Some b })))))
+      by : (b : Bool) → (asked_machine m t (leaving_machine w place keys rest (Some y)) y b).tasks ≡ set_task m.tasks t (framed (tasked m t) (Some (leaving_machine w place keys rest (Some (record y { answer = Some b })))))
       by true = refl
       by false = refl
 
@@ -151,7 +155,7 @@ module _ (sc : Scenario) (k : Key) (c : Plain) (m : Machine) (t : ℕ) (positive
   new_frame =
       let z = one.old_frame sc k c m t positive inside v at key ls w place keys rest (Claiming.Claimed k x) y own task refl s in
       let u = frame_stays c then_parts stable refl (current sc m t) _ _ z in
-      record { forming = u.forming; at_byte = u.at_byte; keys_ = u.keys_; receipt = u.receipt; lets = u.lets; claim = (refl, subst (λ i. IsIndexOf then_parts k i h) (sym same_index) (stable k x.index h index), ap Some (sym agreed)); forms = u.forms; takes = u.takes }
+      record { forming = u.forming; at_byte = u.at_byte; answered = u.answered; keys_ = u.keys_; receipt = u.receipt; lets = u.lets; claim = (refl, subst (λ i. IsIndexOf then_parts k i h) (sym same_index) (stable k x.index h index), ap Some (sym agreed)); forms = u.forms; takes = u.takes }
 
   shape_after : Shape sc then_parts then_machine
   shape_after = shape_then sc c m t positive inside s.shape then_parts then_machine (Some F2) (Some G2) refl tasks_are refl

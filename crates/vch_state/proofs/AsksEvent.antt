@@ -1,8 +1,9 @@
 -- From what the calls of Ask promise to what the event does.
+use Rattle.std.specs.Prelude.{is_some}
+use Rattle.vch_base.specs.Tasks.{at_task, set_task}
 use Rattle.std.proofs.Common.{◌≡◌, ◌≢◌, ℕ, ◌+◌, ◌-◌, ◌<◌, ◌≤◌, not, Bool, true, false, List, [], ◌∷◌, ◌++◌, refl, arith, sym, ap, ◌∙◌, length, get_or, subst, Option, Some, None}
 use Rattle.std.specs.Prelude.{IsSome, IfSome, ◌^◌}
 use Rattle.std.specs.List.{count_by}
-use Rattle.std.proofs.Math.ListN.{set}
 use Rattle.vch_base.specs.declared.key.Key.{Key}
 use Rattle.vch_base.specs.declared.key.Key.TheVariants as keys
 use Rattle.vch_base.specs.declared.kind.Kind.TheVariants as kinds
@@ -21,10 +22,11 @@ use Rattle.vch_model.specs.Lines.{is_task}
 use Rattle.vch_model.specs.Rows as rows
 use Rattle.vch_model.specs.declared.call.Call.{Call}
 use Rattle.vch_machine.specs.State as machine
-use Rattle.vch_machine.specs.State.{of_key, Place, Machine, tasked}
+use Rattle.vch_base.specs.Keyed.{of_key}
+use Rattle.vch_machine.specs.State.{Place, Machine, tasked}
 use Rattle.vch_machine.specs.Next.{current, next_kind}
 use Rattle.vch_machine.specs.Events.{event}
-use Rattle.vch_legal.proofs.Keeps.{event_keeps}
+use Rattle.vch_legal.proofs.CallerLemmas.{event_keeps}
 use Rattle.vch_state.specs.declared.frame.Frame.{Frame}
 use Rattle.vch_state.specs.declared.frame.Claiming.{Claiming}
 use Rattle.vch_state.specs.declared.frames.Working.{Working}
@@ -37,8 +39,8 @@ use Rattle.vch_state.specs.Bounds.{Limited}
 use Rattle.vch_state.specs.Stands.{StandsFor}
 use Rattle.vch_state.specs.Moves.{one_asked, noted_release, less_room}
 use Rattle.vch_state.specs.Reached.{plain_of, parts_in, IsState, IsEvent, Follows, Reached, value_kind}
-use Rattle.vch_state.proofs.FrameParts.{frame_is, machine_frame_is}
-use Rattle.vch_state.proofs.Glue.{put_taken, own_frame, in_parts, in_frames, twin_of, is_user, there_of, from_reached, event_is, asks_next}
+use Rattle.vch_state.proofs.FrameParts.{frame_is, machine_frame_is, answered_is}
+use Rattle.vch_state.proofs.Glue.{task_number, put_taken, own_frame, in_parts, in_frames, twin_of, is_user, there_of, from_reached, event_is, asks_next}
 use Rattle.vch_state.proofs.Spending.{done_bound}
 use Rattle.vch_state.proofs.Replaced.{claims_before, claims_behind}
 use Rattle.vch_state.proofs.LetsGo.{leaving_frame, leaving_machine}
@@ -76,7 +78,7 @@ asking_of p call f key x g A r rec cl h = by g.claim refl (subst (λ z. IsClaim 
         let user : key ≡ keys.User = is_user p key x.index y.place.handle e.1 in
         h y user (record {
           own = frame_is f None f.lets (Claiming.Claimed keys.User x) rec refl (cl ∙ ap (λ k. Claiming.Claimed k x) user);
-          twin = machine_frame_is g None g.lets (Some (unasked y.place.handle y)) (no_receipt g.receipt (subst (λ o. Optional IsReceipt o g.receipt) rec r.receipt)) refl (q ∙ ap Some (claim_is y (sym e.0 ∙ user) e.2));
+          twin = machine_frame_is g (not (is_some g.forming)) None g.lets (Some (unasked y.place.handle y)) (answered_is (plain_of p) call f g r) (no_receipt g.receipt (subst (λ o. Optional IsReceipt o g.receipt) rec r.receipt)) refl (q ∙ ap Some (claim_is y (sym e.0 ∙ user) e.2));
           index = subst (λ k. IsIndexOf (plain_of p) k x.index y.place.handle) user e.1;
         })
 
@@ -170,8 +172,8 @@ module _ (p : Parts) (t : ℕ) (f : Frame) (key : Key) (x : flight.Claim) (task 
         frame_then = rw (told, user) refl
 
         tasks_then : parts_in p.spaces frames2 ≡ NextParts.tasks
-        tasks_then = ap (parts_in p.spaces) put ∙ put_taken p.spaces p.frames t (Some (record f { claim = Claiming.Answered key asked })) (in_frames p m t s task)
-            ∙ ap (λ u. set (parts_in p.spaces p.frames) (t - 1) (with_frame (get_or (parts_in p.spaces p.frames) (t - 1) idle_part) (Some u))) frame_then
+        tasks_then = ap (parts_in p.spaces) put ∙ put_taken p.spaces p.frames t (Some (record f { claim = Claiming.Answered key asked })) (task_number p.scenario t task).0 (in_frames p m t s task)
+            ∙ ap (λ u. set_task (parts_in p.spaces p.frames) t (with_frame (at_task (parts_in p.spaces p.frames) t idle_part) (Some u))) frame_then
 
         made_is : made ≡ number_at p.made.user h
         made_is = number ∙ ap (λ k. number_at (of_key k p.made) h) user

@@ -1,18 +1,19 @@
 -- Claims on a handle, in the state and in the picture.
-use Rattle.std.proofs.Common.{◌≡◌, ℕ, suc, ◌-◌, ◌<◌, ◌==◌, ◌&&◌, Bool, true, false, cond, List, [], ◌∷◌, ◌++◌, refl, arith, sym, length, get_or, subst, Option, Some, None}
+use Rattle.std.proofs.Common.{◌≡◌, ℕ, suc, ◌<◌, ◌==◌, ◌&&◌, Bool, true, false, cond, List, [], ◌∷◌, ◌++◌, refl, arith, length, get_or, Option, Some, None}
 use Rattle.std.specs.List.{flat_map}
 use Rattle.vch_base.specs.declared.key.Key.{Key}
 use Rattle.vch_model.specs.declared.call.Call.{Call}
 use Rattle.vch_model.specs.declared.lists.Scenario.{Scenario}
 use Rattle.vch_value.specs.Picture.{claims_at, Claimed}
 use Rattle.vch_machine.specs.State as machine
-use Rattle.vch_machine.specs.State.{of_key, Place, same_place, Claim, Machine, Tasked, tasked, idle, claim_at, frame_claims, claims_on, is_empty}
+use Rattle.vch_machine.specs.State.{Place, same_place, Claim, Machine, Tasked, tasked, idle, claim_at, frame_claims, claims_on, is_empty}
 use Rattle.vch_machine.specs.Next.{current}
 use Rattle.vch_state.specs.declared.frame.Frame.{Frame}
 use Rattle.vch_state.specs.declared.frame.Claiming.{Claiming}
 use Rattle.vch_state.specs.Plain.{Plain, Part, part_of, idle_part}
 use Rattle.vch_state.specs.Shape.{Shape, Optional, IsFrame}
-use Rattle.vch_state.specs.Pictures.{picture_of, same_key, sync_of, Both, both, frame_claimed, claimed_of}
+use Rattle.vch_state.specs.Pictures.{picture_of, sync_of, Both, both, frame_claimed, claimed_of}
+use Rattle.vch_base.specs.Keys.{same_key}
 
 module _ (k : Key) (h : ℕ) where
   abbrev pub here : Place
@@ -70,7 +71,5 @@ module _ (k : Key) (h : ℕ) where
       where
         each : (i : ℕ) → i < length c.tasks → AreThose (claims_at h (frame_claimed k (get_or c.tasks i idle_part).frame (get_or m.tasks i idle).frame)) (frame_claims (get_or m.tasks i idle).frame here)
         each i l =
-            let e : i ≡ suc i - 1 = omega arith in
             let t = s.tasks (suc i) (omega arith) (omega (arith, l)) in
-            subst (λ j. AreThose (claims_at h (frame_claimed k (get_or c.tasks j idle_part).frame (get_or m.tasks j idle).frame)) (frame_claims (get_or m.tasks j idle).frame here)) (sym e)
             (frame_those (current sc m (suc i)) (part_of c (suc i)).frame (tasked m (suc i)).frame t.frame)

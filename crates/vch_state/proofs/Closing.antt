@@ -1,5 +1,5 @@
 -- A frame that has nothing left to do is gone, and stands for nothing.
-use Rattle.std.proofs.Common.{◌≡◌, ◌||◌, not, Bool, true, false, cond, List, [], ◌∷◌, refl, Option, Some, None}
+use Rattle.std.proofs.Common.{◌≡◌, ◌||◌, not, Bool, true, false, cond, List, [], ◌∷◌, refl, sym, ◌∙◌, Option, Some, None}
 use Rattle.std.specs.Prelude.{is_some}
 use Rattle.vch_base.specs.declared.key.Key.{Key}
 use Rattle.vch_model.specs.declared.call.Call.{Call}
@@ -18,7 +18,7 @@ abbrev pub stays : Frame → Bool
 stays f = is_some f.forming || (is_some f.receipt || (not (is_nothing f.claim) || not (is_empty f.lets)))
 
 abbrev pub remains : machine.Frame → Bool
-remains g = is_some g.forming || (is_some g.receipt || (is_some g.claim || not (is_empty g.lets)))
+remains g = not g.answered || (is_some g.receipt || (is_some g.claim || not (is_empty g.lets)))
 
 same_some : {A B : Type 0} (r : A → B → Type 0) (a : Option A) (b : Option B) → Optional r a b → is_some a ≡ is_some b
 same_some r None None p = refl
@@ -40,9 +40,13 @@ same_claim c Claiming.Nothing (Some y) p = absurd p
 same_claim c (Claiming.Claimed k x) None p = absurd p
 same_claim c (Claiming.Answered k x) None p = absurd p
 
+not_not : (b a : Bool) → a ≡ not b → b ≡ not a
+not_not true a e = rw e refl
+not_not false a e = rw e refl
+
 pub same_stay : (c : Plain) (call : Option Call) (f : Frame) (g : machine.Frame) → IsFrame c call f g → stays f ≡ remains g
 same_stay c call f g p =
-    let a : is_some f.forming ≡ is_some g.forming = same_some _ f.forming g.forming p.forming in
+    let a : is_some f.forming ≡ not g.answered = not_not (is_some f.forming) g.answered p.answered in
     let b : is_some f.receipt ≡ is_some g.receipt = same_some _ f.receipt g.receipt p.receipt in
     let d : not (is_nothing f.claim) ≡ is_some g.claim = same_claim c f.claim g.claim p.claim in
     let e : is_empty f.lets ≡ is_empty g.lets = same_empty _ f.lets g.lets p.lets in
@@ -80,14 +84,29 @@ nothing_of Claiming.Nothing e = refl
 nothing_of (Claiming.Claimed k x) e = absurd (cc)
 nothing_of (Claiming.Answered k x) e = absurd (cc)
 
-pub holds_closed : (k : Key) (g : machine.Frame) → frame_holds k (frames.closed g) ≡ frame_holds k (Some g)
-holds_closed k g = by (remains g) refl
+-- nothing is formed once the call is answered
+abbrev pub Formless : machine.Frame → Type 0
+Formless g = g.answered ≡ true → g.forming ≡ None
+
+pub formless : (c : Plain) (call : Option Call) (f : Frame) (g : machine.Frame) → IsFrame c call f g → Formless g
+formless c call f g p e = none_of g.forming (sym (same_some _ f.forming g.forming p.forming) ∙ not_true_of (is_some f.forming) (sym p.answered ∙ e))
+  where
+    not_true_of : (b : Bool) → not b ≡ true → b ≡ false
+    not_true_of true e = absurd (cc)
+    not_true_of false e = refl
+
+was_answered : (b : Bool) → not b ≡ false → b ≡ true
+was_answered true e = refl
+was_answered false e = absurd (cc)
+
+pub holds_closed : (k : Key) (g : machine.Frame) → Formless g → frame_holds k (frames.closed g) ≡ frame_holds k (Some g)
+holds_closed k g h = by (remains g) refl
   where
     by : (b : Bool) → remains g ≡ b → frame_holds k (cond b (Some g) None) ≡ frame_holds k (Some g)
     by true e = refl
     by false e =
-        let n = or_none (is_some g.forming) (is_some g.receipt) (is_some g.claim) (not (is_empty g.lets)) e in
-        rw (none_of g.forming n.0, empty_of g.lets n.3) refl
+        let n = or_none (not g.answered) (is_some g.receipt) (is_some g.claim) (not (is_empty g.lets)) e in
+        rw (h (was_answered g.answered n.0), empty_of g.lets n.3) refl
 
 pub receipts_closed : (k : Key) (f : Frame) → receipts_of k (closed f) ≡ receipts_of k (Some f)
 receipts_closed k f = by (stays f) refl
@@ -104,39 +123,39 @@ claimed_closed c call k f g p = by (stays f) (remains g) refl (same_stay c call 
     by : (a b : Bool) → remains g ≡ b → a ≡ b → frame_claimed k (cond a (Some f) None) (cond b (Some g) None) ≡ claimed_of k f.claim g.claim
     by true true r e = refl
     by false false r e =
-        let n = or_none (is_some g.forming) (is_some g.receipt) (is_some g.claim) (not (is_empty g.lets)) r in
+        let n = or_none (not g.answered) (is_some g.receipt) (is_some g.claim) (not (is_empty g.lets)) r in
         rw (none_of g.claim n.2) refl
     by true false r e = absurd (cc)
     by false true r e = absurd (cc)
 
 -- and had no work left
-pub rank_closed : (call : Option Call) (g : machine.Frame) → rank call (frames.closed g) ≡ rank call (Some g)
-rank_closed call g = by (remains g) refl
+pub rank_closed : (call : Option Call) (g : machine.Frame) → Formless g → rank call (frames.closed g) ≡ rank call (Some g)
+rank_closed call g h = by (remains g) refl
   where
     by : (b : Bool) → remains g ≡ b → rank call (cond b (Some g) None) ≡ rank call (Some g)
     by true e = refl
     by false e =
-        let n = or_none (is_some g.forming) (is_some g.receipt) (is_some g.claim) (not (is_empty g.lets)) e in
-        rw (none_of g.forming n.0, empty_of g.lets n.3) refl
+        let n = or_none (not g.answered) (is_some g.receipt) (is_some g.claim) (not (is_empty g.lets)) e in
+        rw (h (was_answered g.answered n.0), empty_of g.lets n.3) refl
 
 -- nor a call without an answer, nor a receipt in flight
-pub makes_closed : (call : Option Call) (g : machine.Frame) → makes call (frames.closed g) ≡ makes call (Some g)
-makes_closed call g = by (remains g) refl
+pub makes_closed : (call : Option Call) (g : machine.Frame) → Formless g → makes call (frames.closed g) ≡ makes call (Some g)
+makes_closed call g h = by (remains g) refl
   where
     by : (b : Bool) → remains g ≡ b → makes call (cond b (Some g) None) ≡ makes call (Some g)
     by true e = refl
     by false e =
-        let n = or_none (is_some g.forming) (is_some g.receipt) (is_some g.claim) (not (is_empty g.lets)) e in
-        rw (none_of g.forming n.0) refl
+        let n = or_none (not g.answered) (is_some g.receipt) (is_some g.claim) (not (is_empty g.lets)) e in
+        rw (h (was_answered g.answered n.0)) refl
 
-pub open_closed : (g : machine.Frame) → open_of (frames.closed g) ≡ open_of (Some g)
-open_closed g = by (remains g) refl
+pub open_closed : (g : machine.Frame) → Formless g → open_of (frames.closed g) ≡ open_of (Some g)
+open_closed g h = by (remains g) refl
   where
     by : (b : Bool) → remains g ≡ b → open_of (cond b (Some g) None) ≡ open_of (Some g)
     by true e = refl
     by false e =
-        let n = or_none (is_some g.forming) (is_some g.receipt) (is_some g.claim) (not (is_empty g.lets)) e in
-        rw (none_of g.forming n.0) refl
+        let n = or_none (not g.answered) (is_some g.receipt) (is_some g.claim) (not (is_empty g.lets)) e in
+        rw (h (was_answered g.answered n.0)) refl
 
 pub flying_closed : (g : machine.Frame) → flying_of (frames.closed g) ≡ flying_of (Some g)
 flying_closed g = by (remains g) refl
@@ -144,5 +163,5 @@ flying_closed g = by (remains g) refl
     by : (b : Bool) → remains g ≡ b → flying_of (cond b (Some g) None) ≡ flying_of (Some g)
     by true e = refl
     by false e =
-        let n = or_none (is_some g.forming) (is_some g.receipt) (is_some g.claim) (not (is_empty g.lets)) e in
+        let n = or_none (not g.answered) (is_some g.receipt) (is_some g.claim) (not (is_empty g.lets)) e in
         rw (none_of g.receipt n.1) refl

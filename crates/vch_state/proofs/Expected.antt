@@ -1,5 +1,5 @@
 -- Receipts and claims at a handle, in the state and in the picture.
-use Rattle.std.proofs.Common.{◌≡◌, ℕ, suc, ◌-◌, ◌<◌, ◌==◌, ◌&&◌, ◌||◌, Bool, true, false, cond, List, [], ◌∷◌, ◌++◌, refl, arith, sym, ap, ◌∙◌, length, get_or, subst, Option, Some, None}
+use Rattle.std.proofs.Common.{◌≡◌, ℕ, suc, ◌<◌, ◌==◌, ◌&&◌, ◌||◌, Bool, true, false, cond, List, [], ◌∷◌, ◌++◌, refl, arith, sym, ap, ◌∙◌, length, get_or, Option, Some, None}
 use Rattle.std.specs.List.{list_any, flat_map}
 use Rattle.std.proofs.lemmas.Grind.{common_steps}
 use Rattle.vch_base.specs.declared.key.Key.{Key}
@@ -8,13 +8,14 @@ use Rattle.vch_model.specs.declared.lists.Scenario.{Scenario}
 use Rattle.vch_value.specs.Flight.{Receipt}
 use Rattle.vch_value.specs.Picture.{flags_at, is_met}
 use Rattle.vch_machine.specs.State as machine
-use Rattle.vch_machine.specs.State.{of_key, Place, same_place, Claim, Machine, Tasked, tasked, idle, is_place, frame_expects, is_expected, claim_at, frame_claims, claims_on, is_empty}
+use Rattle.vch_machine.specs.State.{Place, same_place, Claim, Machine, Tasked, tasked, idle, is_place, frame_expects, is_expected, claim_at, frame_claims, claims_on, is_empty}
 use Rattle.vch_machine.specs.Next.{current}
 use Rattle.vch_state.specs.declared.frame.Frame.{Frame}
 use Rattle.vch_state.specs.declared.frame.KeyReceipt.{KeyReceipt}
 use Rattle.vch_state.specs.Plain.{Plain, Part, part_of, idle_part}
 use Rattle.vch_state.specs.Shape.{Shape, Optional, IsReceipt, IsFrame}
-use Rattle.vch_state.specs.Pictures.{picture_of, receipt_of, receipts_of, same_key}
+use Rattle.vch_state.specs.Pictures.{picture_of, receipt_of, receipts_of}
+use Rattle.vch_base.specs.Keys.{same_key}
 use Rattle.vch_state.proofs.Held.{any_along}
 
 module _ (k : Key) (h : ℕ) where
@@ -60,9 +61,7 @@ module _ (k : Key) (h : ℕ) where
 
     each_task : (i : ℕ) → i < length c.tasks → met (receipts_of k (get_or c.tasks i idle_part).frame) ≡ frame_expects (get_or m.tasks i idle).frame here
     each_task i l =
-        let e : i ≡ suc i - 1 = omega arith in
         let t = s.tasks (suc i) (omega arith) (omega (arith, l)) in
-        subst (λ j. met (receipts_of k (get_or c.tasks j idle_part).frame) ≡ frame_expects (get_or m.tasks j idle).frame here) (sym e)
         (frame_same (current sc m (suc i)) (part_of c (suc i)).frame (tasked m (suc i)).frame t.frame)
 
     -- some frame of the state expects a handle exactly where the picture has a receipt for it

@@ -6,7 +6,7 @@ use Rattle.std.proofs.lemmas.List.Sums.{count_by-le-length}
 use Rattle.vch_base.specs.declared.key.Key.{Key}
 use Rattle.vch_base.specs.declared.key.Key.TheVariants as keys
 use Rattle.vch_base.specs.Slots.{is_taken}
-use Rattle.vch_machine.specs.State.{of_key}
+use Rattle.vch_base.specs.Keyed.{of_key}
 use Rattle.vch_state.specs.declared.frame.Frame.{Frame}
 use Rattle.vch_state.specs.declared.frame.KeyReceipt.{KeyReceipt}
 use Rattle.vch_state.specs.declared.parts.Parts.{Parts}

@@ -1,5 +1,6 @@
 -- The parts of a new core stand for the state at the start.
-use Rattle.std.proofs.Common.{◌≡◌, ℕ, zero, suc, ◌+◌, ◌-◌, ◌≤◌, List, [], ◌∷◌, refl, arith, sym, ap, ◌∙◌, subst, length, map, get_or, Option}
+use Rattle.vch_base.specs.Tasks.{at_task}
+use Rattle.std.proofs.Common.{◌≡◌, ℕ, zero, suc, ◌+◌, ◌≤◌, List, [], ◌∷◌, refl, arith, sym, ap, ◌∙◌, subst, length, map, get_or, Option}
 use Rattle.std.specs.List.{flat_map}
 use Rattle.vch_base.specs.declared.flags.Flags.{Flags}
 use Rattle.vch_base.specs.declared.key.Key.TheVariants as keys
@@ -8,16 +9,17 @@ use Rattle.vch_entry.specs.Entries.{Entries}
 use Rattle.vch_ports.specs.Names.{Names}
 use Rattle.vch_value.specs.Picture as picture
 use Rattle.vch_value.specs.Picture.{Picture}
-use Rattle.vch_value.proofs.Starts.{starts}
+use Rattle.vch_value.proofs.CallerLemmas.{starts}
 use Rattle.vch_model.specs.Scenarios.{IsLimited, line_count}
 use Rattle.vch_model.specs.declared.lists.Scenario.{Scenario}
 use Rattle.vch_machine.specs.State as machine
-use Rattle.vch_machine.specs.State.{Keyed, Tasked, Machine, idle, tasked}
+use Rattle.vch_base.specs.Keyed.{Keyed}
+use Rattle.vch_machine.specs.State.{Tasked, Machine, idle, tasked}
 use Rattle.vch_model.specs.Rows as rows
 use Rattle.vch_model.specs.Lines.{lines_of}
 use Rattle.vch_table.specs.declared.table.Cell.{Cell}
 use Rattle.vch_machine.specs.Next.{current, nth_call}
-use Rattle.vch_legal.proofs.Keeps.{start_keeps}
+use Rattle.vch_legal.proofs.CallerLemmas.{start_keeps}
 use Rattle.vch_state.specs.declared.frames.Working.{Working}
 use Rattle.vch_state.specs.Plain.{Plain, Part, idle_part, part_of, resting}
 use Rattle.vch_state.specs.Fresh.{AreFresh, all_resting}
@@ -83,7 +85,7 @@ no_sum f h t [] = refl
 no_sum f h t (x ∷ flags) = let a : f t idle ≡ 0 = h t in let e : sum_tasks f (t + 1) (idles flags) ≡ 0 = no_sum f h (t + 1) flags in omega (arith, a, e)
 
 pub limited_of : (sc : Scenario) → IsLimited sc → Limited sc
-limited_of sc l = record { tasks = l.tasks; phases = l.phases; calls = omega (arith, l.calls); lines = of_tasks (length sc.flags) sc.phases l.lines }
+limited_of sc l = record { tasks = l.tasks; phases = l.phases; calls = omega (arith, l.calls); lines = of_tasks sc.version (length sc.flags) sc.phases l.lines }
 
 module _ (sc : Scenario) (c : Plain) (limited : IsLimited sc)
     (tasks : c.tasks ≡ rests sc.flags) (table : c.table ≡ []) (history : c.history ≡ []) (phase : c.phase ≡ 0)
@@ -114,9 +116,17 @@ module _ (sc : Scenario) (c : Plain) (limited : IsLimited sc)
       (subst (λ k. picture.Stands empty (record { slots = []; spare = c.keyed.user.entries.spare }) k) (sym kept)
       (starts c.keyed.user.entries.spare (record { slots = []; free = []; ledgers = []; asked = 0; rules = user_rules }) (λ h m e. absurd (cc)))))
 
+  resting_at : (t : ℕ) → at_task (rests sc.flags) t idle_part ≡ idle_part
+  resting_at zero = refl
+  resting_at (suc i) = rest_at sc.flags i
+
+  idling_at : (t : ℕ) → tasked (machine.start sc) t ≡ idle
+  idling_at zero = refl
+  idling_at (suc i) = idle_at sc.flags i
+
   every_task : (t : ℕ) → IsTask c (current sc (machine.start sc) t) (part_of c t) (tasked (machine.start sc) t)
-  every_task t = subst (λ x. IsTask c (current sc (machine.start sc) t) x (tasked (machine.start sc) t)) (sym (ap (λ ts. get_or ts (t - 1) idle_part) tasks ∙ rest_at sc.flags (t - 1)))
-      (subst (λ (y : Tasked). IsTask c (nth_call sc t y.begun) idle_part y) (sym (idle_at sc.flags (t - 1)))
+  every_task t = subst (λ x. IsTask c (current sc (machine.start sc) t) x (tasked (machine.start sc) t)) (sym (ap (λ ts. at_task ts t idle_part) tasks ∙ resting_at t))
+      (subst (λ (y : Tasked). IsTask c (nth_call sc t y.begun) idle_part y) (sym (idling_at t))
       (record { names = tt; next = refl; queue = tt; begun = refl; frame = tt }))
 
   pub start_stands : StandsFor sc (keys.User ∷ []) c (machine.start sc)
@@ -144,7 +154,7 @@ module _ (sc : Scenario) (c : Plain) (limited : IsLimited sc)
           let b : in_all open_in (machine.start sc) ≡ 0 = none_in open_in (λ t. refl) in omega (arith, a, b);
       past = let b : in_all open_in (machine.start sc) ≡ 0 = none_in open_in (λ t. refl) in omega (arith, b);
       phases = omega arith;
-      tasks = λ i. subst (TaskSpent sc (i + 1)) (sym (idle_at sc.flags i)) (record { begun = omega arith; next = omega arith });
+      tasks = λ t. subst (TaskSpent sc t) (sym (idling_at t)) (record { begun = omega arith; next = omega arith });
     };
     fits = start_keeps sc;
   }

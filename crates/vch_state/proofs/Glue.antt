@@ -1,4 +1,5 @@
 -- From the parts of a core to plain data, and a task's frames on both sides.
+use Rattle.vch_base.specs.Tasks.{at_task, set_task}
 use Rattle.std.proofs.Common.{◌≡◌, ℕ, zero, suc, ◌+◌, ◌-◌, ◌<◌, ◌≤◌, Bool, true, List, [], ◌∷◌, refl, arith, ap, ◌∙◌, length, get_or, subst, Option, Some, None}
 use Rattle.std.specs.Prelude.{IsSome}
 use Rattle.std.proofs.Math.ListN.{set}
@@ -47,12 +48,21 @@ parts_range [] fs = omega arith
 parts_range (s ∷ ss) [] = omega arith
 parts_range (s ∷ ss) (x ∷ fs) = let e : length (parts_in ss fs) ≤ length fs = parts_range ss fs in omega arith
 
-pub put_taken : (ss : List Names) (fs : List Working) (t : ℕ) (f : Option Frame) → t - 1 < length (parts_in ss fs)
-    → parts_in ss (with_frame_of (with_frame_of fs t None) t f) ≡ set (parts_in ss fs) (t - 1) (with_frame (get_or (parts_in ss fs) (t - 1) idle_part) f)
-put_taken ss fs t f l =
-    let e : working_of (with_frame_of fs t None) t ≡ record { begun = (working_of fs t).begun; frame = None } = get_or-set_same fs (t - 1) (record { begun = (working_of fs t).begun; frame = None }) resting (omega (arith, l, parts_range ss fs)) in
-    ap (parts_in ss) (ap (λ (w : Working). set (with_frame_of fs t None) (t - 1) (record w { frame = f })) e ∙ set-set fs (t - 1) (record { begun = (working_of fs t).begun; frame = None }) (record { begun = (working_of fs t).begun; frame = f }))
-    ∙ parts_put ss fs (t - 1) f
+pub put_taken : (ss : List Names) (fs : List Working) (t : ℕ) (f : Option Frame) → 0 < t → t - 1 < length (parts_in ss fs)
+    → parts_in ss (with_frame_of (with_frame_of fs t None) t f) ≡ set_task (parts_in ss fs) t (with_frame (at_task (parts_in ss fs) t idle_part) f)
+put_taken ss fs zero f p l = absurd (none p)
+  where
+    none : 0 < 0 → ⊥
+    none e = omega arith
+put_taken ss fs (suc i) f p l =
+    let e : working_of (with_frame_of fs (suc i) None) (suc i) ≡ record { begun = (get_or fs i resting).begun; frame = None } = get_or-set_same fs i (record { begun = (get_or fs i resting).begun; frame = None }) resting (omega (arith, l, parts_range ss fs)) in
+    ap (parts_in ss) (ap (λ (w : Working). set (with_frame_of fs (suc i) None) i (record w { frame = f })) e ∙ set-set fs i (record { begun = (get_or fs i resting).begun; frame = None }) (record { begun = (get_or fs i resting).begun; frame = f }))
+    ∙ parts_put ss fs i f
+
+-- a task's frame in the parts
+frame_at : (ss : List Names) (fs : List Working) (t : ℕ) → t - 1 < length (parts_in ss fs) → (at_task (parts_in ss fs) t idle_part).frame ≡ (working_of fs t).frame
+frame_at ss fs zero l = refl
+frame_at ss fs (suc i) l = parts_frame ss fs i (omega (arith, l))
 
 pub task_number : (sc : Scenario) (t : ℕ) → is_task sc t ≡ true → (0 < t) × (t - 1 < length sc.flags)
 task_number sc t e = let a : 0 < t = grind (arith, common_steps) in let b : t < length sc.flags + 1 = grind (arith, common_steps) in (a, omega (arith, a, b))
@@ -65,7 +75,7 @@ pub in_frames : (p : Parts) (m : Machine) (t : ℕ) → StandsFor p.scenario (ke
 in_frames p m t s e = (in_parts p.scenario (keys.User ∷ []) (plain_of p) m t s e).1
 
 pub own_frame : (p : Parts) (m : Machine) (t : ℕ) → StandsFor p.scenario (keys.User ∷ []) (plain_of p) m → is_task p.scenario t ≡ true → (part_of (plain_of p) t).frame ≡ frame_of p.frames t
-own_frame p m t s e = parts_frame p.spaces p.frames (t - 1) (in_frames p m t s e)
+own_frame p m t s e = frame_at p.spaces p.frames t (in_frames p m t s e)
 
 -- the machine's frame beside one of the core
 pub twin : (c : Plain) (call : Option Call) (f : Frame) (o : Option machine.Frame) (P : Type 0) → Optional (IsFrame c call) (Some f) o → ((g : machine.Frame) → o ≡ Some g → IsFrame c call f g → P) → P
@@ -86,6 +96,7 @@ pub is_user : (p : Parts) (k : Key) (i h : ℕ) → IsIndexOf (plain_of p) k i h
 is_user p keys.Importance i h e = absurd (none_there i h e)
 is_user p keys.Bank i h e = absurd (none_there i h e)
 is_user p keys.User i h e = refl
+is_user p keys.Test i h e = absurd (none_there i h e)
 
 pub there_of : (slots : List (Option Entry)) (i h : ℕ) → handle_at slots i ≡ Some h → IsSome (entry_at slots i)
 there_of slots i h e = by (entry_at slots i) e

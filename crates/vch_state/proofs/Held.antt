@@ -1,5 +1,5 @@
 -- A handle is held in the state exactly where the picture counts a holder.
-use Rattle.std.proofs.Common.{◌≡◌, ℕ, zero, suc, ◌+◌, ◌-◌, ◌<◌, ◌==◌, nat_lt, ◌&&◌, ◌||◌, Bool, true, false, cond, List, [], ◌∷◌, ◌++◌, refl, arith, sym, ap, ◌∙◌, length, get_or, subst, Option, Some, None}
+use Rattle.std.proofs.Common.{◌≡◌, ℕ, zero, suc, ◌+◌, ◌<◌, ◌==◌, nat_lt, ◌&&◌, ◌||◌, Bool, true, false, cond, List, [], ◌∷◌, ◌++◌, refl, arith, sym, ap, ◌∙◌, length, get_or, subst, Option, Some, None}
 use Rattle.std.specs.List.{list_any, flat_map}
 use Rattle.std.proofs.lemmas.Grind.{common_steps}
 use Rattle.std.proofs.lemmas.List.Sums.{sum_by-cons}
@@ -7,13 +7,15 @@ use Rattle.vch_base.specs.declared.key.Key.{Key}
 use Rattle.vch_base.specs.Managers.{count}
 use Rattle.vch_model.specs.declared.lists.Scenario.{Scenario}
 use Rattle.vch_machine.specs.State as machine
-use Rattle.vch_machine.specs.State.{of_key, Handles, Place, same_place, Named, Message, Machine, Tasked, has_place, option_has, is_held, task_holds, is_handle, tasked, idle}
+use Rattle.vch_base.specs.Keyed.{of_key}
+use Rattle.vch_machine.specs.State.{Handles, Place, same_place, Named, Message, Machine, Tasked, has_place, option_has, is_held, task_holds, is_handle, tasked, idle}
 use Rattle.vch_base.specs.Slots.{slot_at}
 use Rattle.vch_table.specs.declared.table.Cell.{Cell}
 use Rattle.vch_table.specs.Vouchers.{references_of}
 use Rattle.vch_state.specs.Plain.{Plain, Part, part_of, idle_part, SlotName, SlotMessage}
 use Rattle.vch_state.specs.Shape.{index_of, Shape, Pairwise, Optional, IsIndexOf, IsSlotOf, HasMap, IsName, IsMessage, IsTable, slots_of, named_by, queued_by, referred_by, is_slot, bit}
-use Rattle.vch_state.specs.Pictures.{cell_holds, forming_holds, frame_holds, let_holds, listed, translated, same_key, picture_of}
+use Rattle.vch_state.specs.Pictures.{cell_holds, forming_holds, frame_holds, let_holds, listed, translated, picture_of}
+use Rattle.vch_base.specs.Keys.{same_key}
 use Rattle.vch_state.proofs.Maps.{at_key}
 
 pub cases_of : (b : Bool) (P : Type 0) → (b ≡ true → P) → (b ≡ false → P) → P
@@ -243,9 +245,8 @@ module _ (k : Key) (h : ℕ) where
     module _ (sc : Scenario) (m : Machine) (s : Shape sc c m) where
       each_task : (i : ℕ) → i < length c.tasks → part_has (get_or c.tasks i idle_part) ≡ kept_has (get_or m.tasks i idle)
       each_task i l =
-          let e : i ≡ suc i - 1 = omega arith in
           let t = s.tasks (suc i) (omega arith) (omega (arith, l)) in
-          subst (λ j. part_has (get_or c.tasks j idle_part) ≡ kept_has (get_or m.tasks j idle)) (sym e) (sym (part_same (part_of c (suc i)) (tasked m (suc i)) t.names t.queue))
+          sym (part_same (part_of c (suc i)) (tasked m (suc i)) t.names t.queue)
 
       tasks_same : list_any kept_has m.tasks ≡ list_any cell_has c.table
       tasks_same = sym (any_along part_has kept_has idle_part idle c.tasks m.tasks s.long each_task) ∙ slots_same s.table

@@ -1,38 +1,30 @@
 -- A key's values are replaced in the parts.
-use Rattle.std.proofs.Common.{◌≡◌, ℕ, true, List, [], ◌∷◌, refl, ap, Option, Some, None}
+use Rattle.std.proofs.Common.{◌≡◌, inl, inr, ℕ, cond, List, [], ◌∷◌, refl, sym, ap, ◌∙◌, subst, Option, Some, None}
 use Rattle.std.specs.List.{flat_map}
 use Rattle.vch_base.specs.declared.key.Key.{Key}
-use Rattle.vch_base.specs.declared.key.Key.TheVariants as keys
+use Rattle.vch_base.proofs.CallerLemmas.{with_of}
+use Rattle.vch_state.proofs.KeyCases.{key_cases, same_key_refl}
 use Rattle.vch_base.specs.Managers.{Kept}
 use Rattle.vch_entry.specs.Entries.{Entries, handle_at}
 use Rattle.vch_table.specs.declared.table.Cell.{Cell}
-use Rattle.vch_machine.specs.State.{Keyed, of_key, with_key}
+use Rattle.vch_base.specs.Keyed.{Keyed, of_key, with_key}
 use Rattle.vch_state.specs.Plain.{Plain, KeyParts}
 use Rattle.vch_state.specs.Shape.{index_of, slots_of}
-use Rattle.vch_state.specs.Pictures.{same_key, cell_holds, listed, translated}
+use Rattle.vch_state.specs.Pictures.{cell_holds, listed, translated}
 use Rattle.vch_state.specs.Moves.{with_values}
 
 pub of_with : {A : Type 0} (k : Key) (a : A) (x : Keyed A) → of_key k (with_key k a x) ≡ a
-of_with keys.Importance a x = refl
-of_with keys.Bank a x = refl
-of_with keys.User a x = refl
-
-pub same_key_refl : (k : Key) → same_key k k ≡ true
-same_key_refl keys.Importance = refl
-same_key_refl keys.Bank = refl
-same_key_refl keys.User = refl
+of_with k a x = with_of k k a x ∙ ap (λ b. cond b a (of_key k x)) (same_key_refl k)
 
 -- what holds of the new values at the key, and of the old ones at all others, holds at each key
 pub each_key : (P : Key → KeyParts → Type 0) (c : Plain) (k : Key) (e : Entries) (kept : Kept) → P k (record (of_key k c.keyed) { entries = e; kept = kept }) → ((q : Key) → P q (of_key q c.keyed)) → (q : Key) → P q (of_key q (with_values c k e kept).keyed)
-each_key P c keys.Importance e kept here there keys.Importance = here
-each_key P c keys.Importance e kept here there keys.Bank = there keys.Bank
-each_key P c keys.Importance e kept here there keys.User = there keys.User
-each_key P c keys.Bank e kept here there keys.Importance = there keys.Importance
-each_key P c keys.Bank e kept here there keys.Bank = here
-each_key P c keys.Bank e kept here there keys.User = there keys.User
-each_key P c keys.User e kept here there keys.Importance = there keys.Importance
-each_key P c keys.User e kept here there keys.Bank = there keys.Bank
-each_key P c keys.User e kept here there keys.User = here
+each_key P c k e kept here there q = elim (key_cases q k) [
+  | inl same ↦ subst (λ j. P j (of_key j (with_values c k e kept).keyed)) (sym same) (subst (P k) (sym (of_with k new c.keyed)) here)
+  | inr other ↦ subst (P q) (sym (with_of q k new c.keyed ∙ ap (λ b. cond b new (of_key q c.keyed)) other)) (there q)
+]
+  where
+    new : KeyParts
+    new = record (of_key k c.keyed) { entries = e; kept = kept }
 
 pub flat_map_same : {X A : Type 0} (f g : X → List A) → ((x : X) → f x ≡ g x) → (xs : List X) → flat_map f xs ≡ flat_map g xs
 flat_map_same f g e [] = refl

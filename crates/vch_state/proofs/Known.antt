@@ -1,6 +1,6 @@
 -- Each live slot of the table has a voucher of the state. So where each index that has a handle keeps it, the table holds
 -- what it held, also where new entries come.
-use Rattle.std.proofs.Common.{◌≡◌, ℕ, zero, suc, ◌+◌, ◌-◌, ◌<◌, ◌≤◌, ◌==◌, List, [], ◌∷◌, refl, arith, sym, ap, ◌∙◌, length, get_or, subst, Option, Some, None}
+use Rattle.std.proofs.Common.{◌≡◌, ℕ, zero, suc, ◌+◌, ◌<◌, ◌≤◌, ◌==◌, List, [], ◌∷◌, refl, arith, sym, ap, ◌∙◌, length, get_or, subst, Option, Some, None}
 use Rattle.std.specs.List.{flat_map}
 use Rattle.std.proofs.lemmas.Grind.{common_steps}
 use Rattle.vch_base.specs.declared.key.Key.{Key}
@@ -8,7 +8,8 @@ use Rattle.vch_base.specs.Slots.{slot_at}
 use Rattle.vch_table.specs.declared.table.Cell.{Cell}
 use Rattle.vch_table.specs.Vouchers.{references_of}
 use Rattle.vch_model.specs.declared.lists.Scenario.{Scenario}
-use Rattle.vch_machine.specs.State.{Handles, Named, Message, Machine, tasked, of_key}
+use Rattle.vch_base.specs.Keyed.{of_key}
+use Rattle.vch_machine.specs.State.{Handles, Named, Message, Machine, tasked}
 use Rattle.vch_state.specs.Plain.{Plain, Part, part_of, idle_part, SlotName, SlotMessage}
 use Rattle.vch_state.specs.Shape.{Shape, Pairwise, Optional, IsIndexOf, IsMap, IsSlotOf, HasMap, IsName, IsMessage, slots_of, index_of, named_by, queued_by, referred_by, is_slot, bit}
 use Rattle.vch_state.specs.Pictures.{cell_holds, listed, translated}
@@ -54,9 +55,8 @@ module _ (c : Plain) (s : ℕ) (P : Type 0) (f : (w : Handles) → IsSlotOf c s 
   -- a slot that is referred to has a voucher
   pub slot_known : (sc : Scenario) (m : Machine) → Shape sc c m → 0 < referred_by s c.tasks → P
   slot_known sc m shape p = referring s c.tasks P p (λ i l q.
-      let e : suc i - 1 ≡ i = omega arith in
       let t = shape.tasks (suc i) (omega arith) (omega (arith, l)) in
-      let q2 : 0 < named_by s (part_of c (suc i)).names + queued_by s (part_of c (suc i)).queue = subst (λ j. 0 < named_by s (get_or c.tasks j idle_part).names + queued_by s (get_or c.tasks j idle_part).queue) (sym e) q in
+      let q2 : 0 < named_by s (part_of c (suc i)).names + queued_by s (part_of c (suc i)).queue = q in
       either (named_by s (part_of c (suc i)).names) (queued_by s (part_of c (suc i)).queue) q2
       (by_name (part_of c (suc i)).names (tasked m (suc i)).names t.names) (by_message (part_of c (suc i)).queue (tasked m (suc i)).queue t.queue))
 

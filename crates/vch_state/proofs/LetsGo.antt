@@ -11,10 +11,11 @@ use Rattle.vch_table.specs.declared.indices.KeyedIndex.{KeyedIndex}
 use Rattle.vch_value.specs.Flight as flight
 use Rattle.vch_value.specs.Picture as picture
 use Rattle.vch_value.specs.Picture.{Picture, Claimed, Alike, claims_at, flags_at, is_nil, is_met, let_go_picture, takes_claim, default_of}
-use Rattle.vch_value.proofs.Rows.{stands_alike}
+use Rattle.vch_value.proofs.CallerLemmas.{stands_alike}
 use Rattle.vch_model.specs.declared.lists.Scenario.{Scenario}
 use Rattle.vch_machine.specs.State as machine
-use Rattle.vch_machine.specs.State.{of_key, Handles, Place, Living, Machine, Tasked, tasked, living_at, is_held, is_expected, claims_on, is_empty}
+use Rattle.vch_base.specs.Keyed.{of_key}
+use Rattle.vch_machine.specs.State.{Handles, Place, Living, Machine, Tasked, tasked, living_at, is_held, is_expected, claims_on, is_empty}
 use Rattle.vch_machine.specs.Frames as frames
 use Rattle.vch_machine.specs.Leaving as leaving
 use Rattle.vch_machine.specs.Leaving.{do_let_go, claim_if, is_fixed, is_fixed_value}
@@ -34,9 +35,10 @@ use Rattle.vch_state.proofs.Held.{held_counted}
 use Rattle.vch_state.proofs.Expected.{expected_met}
 use Rattle.vch_state.proofs.Claims.{AreThose, claims_those}
 use Rattle.vch_state.proofs.Replaced.{picture_by, held_before, held_behind, claims_before, claims_behind, picture_now, picture_then, shape_then, framed}
-use Rattle.vch_state.proofs.Closing.{closed_frames, holds_closed, receipts_closed, claimed_closed, rank_closed, makes_closed, open_closed, flying_closed}
+use Rattle.vch_state.proofs.Closing.{Formless, formless, closed_frames, holds_closed, receipts_closed, claimed_closed, rank_closed, makes_closed, open_closed, flying_closed}
 use Rattle.vch_state.proofs.Spending.{spent_then, unanswered_then, begun_then, open_then, work_same, makes_same}
-use Rattle.vch_state.proofs.Keys.{of_with, same_key_refl, each_key, cells_same}
+use Rattle.vch_state.proofs.Keys.{of_with, each_key, cells_same}
+use Rattle.vch_state.proofs.KeyCases.{same_key_refl}
 use Rattle.vch_state.proofs.Taking.{claims_moved, nil_of, taken}
 use Rattle.vch_state.proofs.FrameParts.{frames_of}
 
@@ -45,7 +47,7 @@ abbrev pub leaving_frame : Option (List KeyedIndex) → ℕ → ℕ → List Key
 leaving_frame v at key lets x = record { forming = v; at = at; key = key; receipt = None; lets = lets; claim = x }
 
 abbrev pub leaving_machine : Option Handles → ℕ → List Key → List Place → Option machine.Claim → machine.Frame
-leaving_machine v at keys lets y = record { forming = v; at_byte = at; keys = keys; receipt = None; lets = lets; claim = y }
+leaving_machine v at keys lets y = record { forming = v; answered = not (is_some v); at_byte = at; keys = keys; receipt = None; lets = lets; claim = y }
 
 -- an index of the claim that was taken
 abbrev pub IsOf : ℕ → Option flight.Claim → Type 0
@@ -106,7 +108,7 @@ module _ (sc : Scenario) (k : Key) (c : Plain) (m : Machine) (t : ℕ) (positive
   left_frame : (d : Plain) → ((q : Key) (i j : ℕ) → IsIndexOf c q i j → IsIndexOf d q i j) → d.table ≡ c.table → (x : Claiming) (y : Option machine.Claim) → IsClaim d x y → IsFrame d (current sc m t) (F1 x) (G1 y)
   left_frame d stable table x y related =
       let z = old_frame d stable table in
-      record { forming = z.forming; at_byte = z.at_byte; keys_ = z.keys_; receipt = z.receipt; lets = z.lets.1; claim = related; forms = z.forms; takes = z.takes }
+      record { forming = z.forming; at_byte = z.at_byte; answered = z.answered; keys_ = z.keys_; receipt = z.receipt; lets = z.lets.1; claim = related; forms = z.forms; takes = z.takes }
 
   others : (d : Plain) → ((q : Key) (i j : ℕ) → IsIndexOf c q i j → IsIndexOf d q i j) → d.table ≡ c.table → (u : ℕ) → u - 1 ≢ t - 1 → 0 < u → u - 1 < length c.tasks → IsTask d (current sc m u) (part_of c u) (tasked m u)
   others d stable table u n q i = task_stays c d stable table (current sc m u) (part_of c u) (tasked m u) (s.shape.tasks u q i)
@@ -120,7 +122,7 @@ module _ (sc : Scenario) (k : Key) (c : Plain) (m : Machine) (t : ℕ) (positive
   P = picture_by k c m t (Some (leaving_frame v at key (l ∷ ls) Claiming.Nothing)) (Some (leaving_machine w place keys (p ∷ rest) None))
 
   pub is_now : picture_of k c m ≡ P
-  is_now = picture_now k c m t s.shape.long inside ∙ rw (own, task) refl
+  is_now = picture_now k c m t positive s.shape.long inside ∙ rw (own, task) refl
 
   abbrev pub ahead : List ℕ
   ahead = held_before k c m t ++ forming_holds k w
@@ -135,7 +137,7 @@ module _ (sc : Scenario) (k : Key) (c : Plain) (m : Machine) (t : ℕ) (positive
   less = simp append_assoc
 
   is_mid : picture_of k mid_parts mid ≡ picture_by k c m t (Some (F1 Claiming.Nothing)) (Some (G1 None))
-  is_mid = picture_then k c m t s.shape.long inside mid_parts mid (Some (F1 Claiming.Nothing)) (Some (G1 None)) refl refl refl
+  is_mid = picture_then k c m t positive s.shape.long inside mid_parts mid (Some (F1 Claiming.Nothing)) (Some (G1 None)) refl refl refl
 
   held : is_held mid p ≡ nat_lt 0 (count h (ahead ++ after))
   held = held_counted k h mid_parts sc mid shape_mid ∙ ap (λ (q : Picture). nat_lt 0 (count h q.holders)) is_mid ∙ ap (λ xs. nat_lt 0 (count h xs)) less
@@ -196,6 +198,9 @@ module _ (sc : Scenario) (k : Key) (c : Plain) (m : Machine) (t : ℕ) (positive
     new_frame : IsFrame then_parts (current sc m t) F2 G2
     new_frame = left_frame then_parts stable refl (claiming k o) (told_claim o) (claim_related o same_index)
 
+    no_forming : Formless G2
+    no_forming = formless then_parts (current sc m t) F2 G2 new_frame
+
     shape_after : Shape sc then_parts then_machine
     shape_after = shape_then sc c m t positive inside s.shape then_parts then_machine (closed F2) (frames.closed G2) refl refl refl
         (others then_parts stable refl) (own_task then_parts stable refl (closed F2) (frames.closed G2) (closed_frames then_parts (current sc m t) F2 G2 new_frame))
@@ -205,8 +210,8 @@ module _ (sc : Scenario) (k : Key) (c : Plain) (m : Machine) (t : ℕ) (positive
 
     picture_after : picture_of k then_parts then_machine ≡ Q
     picture_after =
-        picture_then k c m t s.shape.long inside then_parts then_machine (closed F2) (frames.closed G2) refl refl (cells_same c then_parts k (λ i. all_handles i k) c.table)
-        ∙ rw (holds_closed k G2, receipts_closed k F2, claimed_closed then_parts (current sc m t) k F2 G2 new_frame) refl
+        picture_then k c m t positive s.shape.long inside then_parts then_machine (closed F2) (frames.closed G2) refl refl (cells_same c then_parts k (λ i. all_handles i k) c.table)
+        ∙ rw (holds_closed k G2 no_forming, receipts_closed k F2, claimed_closed then_parts (current sc m t) k F2 G2 new_frame) refl
 
     none_there : (a b z : Bool) → true ≡ (a && (b && z)) → z ≡ true
     none_there true true true e = refl
@@ -279,9 +284,9 @@ module _ (sc : Scenario) (k : Key) (c : Plain) (m : Machine) (t : ℕ) (positive
       room = rw (is_new, unanswered_then sc m then_machine t (frames.closed G2) positive inside_tasks refl opens) s.room;
       slots = rw (open_then m then_machine t (frames.closed G2) positive inside_tasks refl opens, begun_then m then_machine t (frames.closed G2) positive inside_tasks refl) s.slots;
       spent = spent_then sc m then_machine t (frames.closed G2) positive inside_tasks refl (record {
-        done = rw (rank_closed (current sc m t) G2) (subst (λ u. ((leaving.more_claims (told_claim o) m.tally).claims + (leaving.more_claims (told_claim o) m.tally).refers) + rank (current sc m t) (Some G2) ≤ (m.tally.claims + m.tally.refers) + rank (current sc m t) u) (sym task) (less_work o));
+        done = rw (rank_closed (current sc m t) G2 no_forming) (subst (λ u. ((leaving.more_claims (told_claim o) m.tally).claims + (leaving.more_claims (told_claim o) m.tally).refers) + rank (current sc m t) (Some G2) ≤ (m.tally.claims + m.tally.refers) + rank (current sc m t) u) (sym task) (less_work o));
         refers = refers_same o;
-        makes = makes_closed (current sc m t) G2 ∙ makes_same (current sc m t) G2 (leaving_machine w place keys (p ∷ rest) None) w refl refl ∙ sym (ap (makes (current sc m t)) task);
+        makes = makes_closed (current sc m t) G2 no_forming ∙ makes_same (current sc m t) G2 (leaving_machine w place keys (p ∷ rest) None) w refl refl ∙ sym (ap (makes (current sc m t)) task);
         opens = opens;
         flying = flying_closed G2 ∙ sym (ap flying_of task);
         past = asks_past o;
@@ -291,7 +296,7 @@ module _ (sc : Scenario) (k : Key) (c : Plain) (m : Machine) (t : ℕ) (positive
     }
       where
         opens : open_of (frames.closed G2) ≡ open_of (tasked m t).frame
-        opens = open_closed G2 ∙ sym (ap open_of task)
+        opens = open_closed G2 no_forming ∙ sym (ap open_of task)
 
         asks_past : (o : Option flight.Claim) → length m.past + m.tally.asks ≤ length m.past + (leaving.more_claims (told_claim o) m.tally).asks
         asks_past None = omega arith

@@ -1,5 +1,6 @@
 -- From what the calls of LetGo promise to what the event does.
-use Rattle.std.proofs.Common.{◌≡◌, ℕ, ◌+◌, ◌-◌, ◌<◌, ◌≤◌, Bool, true, false, List, [], ◌∷◌, ◌++◌, refl, arith, sym, ap, ◌∙◌, length, get_or, subst, Option, Some, None, inl, inr}
+use Rattle.vch_base.specs.Tasks.{at_task, set_task}
+use Rattle.std.proofs.Common.{◌≡◌, ℕ, ◌+◌, ◌-◌, ◌<◌, ◌≤◌, Bool, true, false, List, [], ◌∷◌, ◌++◌, refl, arith, sym, ap, ◌∙◌, length, subst, Option, Some, None, inl, inr, not}
 use Rattle.std.specs.Prelude.{is_some, IsSome, IfSome, ◌^◌}
 use Rattle.std.proofs.lemmas.Bool.{cases_eq}
 use Rattle.vch_model.specs.declared.call.Call.{Call}
@@ -14,8 +15,7 @@ use Rattle.vch_value.specs.Flight as flight
 use Rattle.vch_value.specs.Picture as picture
 use Rattle.vch_value.specs.Picture.{Picture, entry_of, let_go_picture, takes_claim}
 use Rattle.vch_value.specs.Calls.{LetsGo, claim_of}
-use Rattle.vch_value.proofs.Entry.{entry_is}
-use Rattle.vch_value.proofs.Lists.{count_out}
+use Rattle.vch_value.proofs.CallerLemmas.{entry_is, count_out}
 use Rattle.vch_model.specs.Lines.{is_task}
 use Rattle.vch_machine.specs.State as machine
 use Rattle.vch_machine.specs.State.{Place, Machine, tasked}
@@ -24,14 +24,13 @@ use Rattle.vch_machine.specs.Leaving as leaving
 use Rattle.vch_machine.specs.Leaving.{do_let_go, claim_if}
 use Rattle.vch_machine.specs.Next.{current, next_kind}
 use Rattle.vch_machine.specs.Events.{event}
-use Rattle.vch_legal.proofs.Keeps.{event_keeps}
+use Rattle.vch_legal.proofs.CallerLemmas.{event_keeps}
 use Rattle.vch_state.specs.declared.frame.Frame.{Frame}
 use Rattle.vch_state.specs.declared.frame.Claiming.{Claiming}
 use Rattle.vch_state.specs.declared.frame.KeyIndex.{KeyIndex}
 use Rattle.vch_state.specs.declared.frames.Working.{Working}
 use Rattle.vch_state.specs.declared.parts.Parts.{Parts}
 use Rattle.vch_state.specs.declared.tally.Tally.{Tally}
-use Rattle.std.proofs.Math.ListN.{set}
 use Rattle.vch_state.specs.Plain.{Plain, with_frame, idle_part, part_of, closed, frame_of, with_frame_of}
 use Rattle.vch_state.specs.Shape.{Pairwise, Optional, IsIndexOf, IsLet, IsClaim, IsReceipt, IsFrame}
 use Rattle.vch_state.specs.Pictures.{picture_of}
@@ -39,8 +38,8 @@ use Rattle.vch_state.specs.Bounds.{Limited}
 use Rattle.vch_state.specs.Stands.{StandsFor}
 use Rattle.vch_state.specs.Moves.{claiming, more_claims}
 use Rattle.vch_state.specs.Reached.{plain_of, parts_in, IsState, IsEvent, Follows, Reached, value_kind}
-use Rattle.vch_state.proofs.FrameParts.{frame_is, machine_frame_is}
-use Rattle.vch_state.proofs.Glue.{put_taken, own_frame, in_parts, in_frames, twin_of, is_user, there_of, entry_of_handle, from_reached, event_is, lets_go_next}
+use Rattle.vch_state.proofs.FrameParts.{frame_is, machine_frame_is, answered_is}
+use Rattle.vch_state.proofs.Glue.{task_number, put_taken, own_frame, in_parts, in_frames, twin_of, is_user, there_of, entry_of_handle, from_reached, event_is, lets_go_next}
 use Rattle.vch_state.proofs.Spending.{done_bound}
 use Rattle.vch_state.proofs.LetsGo.{leaving_frame, leaving_machine, IsOf, is_now, ahead, after, split, claim_is, then_parts, then_machine, stands_after, P}
 
@@ -67,7 +66,7 @@ leaving_of c call f l ls g A r rec cl lets h = by g.lets refl (subst (λ x. Pair
     by [] q e = absurd e
     by (p ∷ rest) q e = h p rest (record {
       own = frame_is f None (l ∷ ls) Claiming.Nothing rec lets cl;
-      twin = machine_frame_is g None (p ∷ rest) None (no_receipt g.receipt (subst (λ o. Optional IsReceipt o g.receipt) rec r.receipt)) q (no_claim g.claim (subst (λ x. IsClaim c x g.claim) cl r.claim));
+      twin = machine_frame_is g (not (is_some g.forming)) None (p ∷ rest) None (answered_is c call f g r) (no_receipt g.receipt (subst (λ o. Optional IsReceipt o g.receipt) rec r.receipt)) q (no_claim g.claim (subst (λ x. IsClaim c x g.claim) cl r.claim));
       first = e.0;
       rest_ = e.1;
     })
@@ -226,8 +225,8 @@ module _ (p : Parts) (t : ℕ) (f : Frame) (l : KeyIndex) (ls : List KeyIndex) (
         frame_then = rw (told.0, key) refl
 
         tasks_then : parts_in p.spaces frames2 ≡ NextParts.tasks
-        tasks_then = ap (parts_in p.spaces) put ∙ put_taken p.spaces p.frames t (closed (record f { lets = ls; claim = claiming l.key o })) (in_frames p m t s task)
-            ∙ ap (λ x. set (parts_in p.spaces p.frames) (t - 1) (with_frame (get_or (parts_in p.spaces p.frames) (t - 1) idle_part) (closed x))) frame_then
+        tasks_then = ap (parts_in p.spaces) put ∙ put_taken p.spaces p.frames t (closed (record f { lets = ls; claim = claiming l.key o })) (task_number p.scenario t task).0 (in_frames p m t s task)
+            ∙ ap (λ x. set_task (parts_in p.spaces p.frames) t (with_frame (at_task (parts_in p.spaces p.frames) t idle_part) (closed x))) frame_then
 
         stands_then : StandsFor p.scenario (keys.User ∷ []) (plain_of new_parts) Next
         stands_then = subst (λ ts. StandsFor p.scenario (keys.User ∷ []) (record (plain_of new_parts) { tasks = ts }) Next) (sym tasks_then)

@@ -1,3 +1,5 @@
+pub mod KeyCases
+pub mod Numbered
 pub mod OfTasks
 pub mod EachLine
 pub mod Placing
@@ -40,3 +42,4 @@ pub mod SlotsCounted
 pub mod PhaseEnds
 pub mod Loops
 pub mod RunOn
+pub mod CallerLemmas

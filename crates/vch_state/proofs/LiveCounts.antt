@@ -8,10 +8,11 @@ use Rattle.vch_base.specs.declared.key.Key.TheVariants as keys
 use Rattle.vch_base.specs.declared.places.Live.{Live}
 use Rattle.vch_base.specs.Keys.{number_of}
 use Rattle.vch_base.specs.Slots.{is_taken}
-use Rattle.vch_machine.specs.State.{of_key, Place, same_place, Living, Machine, living_at, alive_of, default_living, default_place}
+use Rattle.vch_base.specs.Keyed.{of_key}
+use Rattle.vch_machine.specs.State.{Place, same_place, Living, Machine, living_at, alive_of, default_living, default_place}
 use Rattle.vch_legal.specs.Facts.{bit, times}
-use Rattle.vch_legal.proofs.Places.{same_place_eq}
-use Rattle.vch_legal.proofs.SeenValues.{AtMostOnce, Each, each_of, at_most_once, found_place}
+use Rattle.vch_legal.proofs.CallerLemmas.{same_place_eq}
+use Rattle.vch_legal.proofs.CallerLemmas.{AtMostOnce, Each, each_of, at_most_once, found_place}
 use Rattle.vch_state.specs.declared.parts.Parts.{Parts}
 use Rattle.vch_state.specs.Stands.{IsLiving, StandsFor, all_live}
 use Rattle.vch_state.specs.Reached.{plain_of, IsState, Stands}
@@ -119,6 +120,7 @@ others_alone (l ∷ live) e = ap (λ a. a + times (λ l. not (is_of_user l)) liv
     user keys.Importance h = absurd (cc)
     user keys.Bank h = absurd (cc)
     user keys.User h = refl
+    user keys.Test h = absurd (cc)
 
     by : (b : Bool) → is_of_user l ≡ b → not b ≡ at_default l
     by true h = sym (ap (λ b. b && (l.place.handle == default_place.handle)) (user l.place.key h))
@@ -161,6 +163,7 @@ of_user : (k : Key) → (number_of k == number_of keys.User) ≡ true → k ≡ 
 of_user keys.Importance h = absurd (cc)
 of_user keys.Bank h = absurd (cc)
 of_user keys.User h = refl
+of_user keys.Test h = absurd (cc)
 
 of_other : (k : Key) → (number_of k == number_of keys.User) ≡ false → k ≡ keys.User → ⊥
 of_other k h e = let f : (number_of k == number_of keys.User) ≡ true = ap (λ x. number_of x == number_of keys.User) e in cc

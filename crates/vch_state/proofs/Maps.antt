@@ -1,44 +1,39 @@
 -- Vouchers by indices and by handles: equal ones are equal on both sides, and one key is set on both.
-use Rattle.std.proofs.Common.{◌≡◌, ◌≢◌, ℕ, ◌<◌, ◌≤◌, ◌==◌, Bool, true, false, cond, List, [], ◌∷◌, length, refl, arith, sym, ap, ◌∙◌, Option, Some, None}
+use Rattle.std.proofs.Common.{◌≡◌, ◌≢◌, ◌⊎◌, inl, inr, subst, nat_le, ℕ, ◌<◌, ◌≤◌, ◌==◌, Bool, true, false, cond, List, [], ◌∷◌, length, refl, arith, sym, ap, ◌∙◌, Option, Some, None}
 use Rattle.std.proofs.lemmas.Grind.{common_steps}
 use Rattle.vch_base.specs.declared.key.Key.{Key}
 use Rattle.vch_base.specs.declared.key.Key.TheVariants as keys
-use Rattle.vch_base.specs.Keys.{number_of, key_of}
+use Rattle.vch_base.specs.Keys.{number_of, key_numbered, same_key}
+use Rattle.vch_base.proofs.CallerLemmas.{with_of, equal_where_equal}
+use Rattle.vch_state.proofs.KeyCases.{key_cases, same_key_refl, other_number}
+use Rattle.vch_state.proofs.Keys.{of_with}
 use Rattle.vch_entry.specs.Entries.{IsApart}
 use Rattle.vch_table.specs.declared.indices.KeyedIndex.{KeyedIndex}
 use Rattle.vch_table.specs.Indices.{index_at, SameIndices, IsRising, Bounded, SetsIndex}
-use Rattle.vch_table.proofs.Maps.{by_cases, same_equal}
-use Rattle.vch_machine.specs.State.{Handles, no_handles, of_key, with_key}
-use Rattle.vch_machine.specs.Naming.{all_keys}
+use Rattle.vch_table.proofs.CallerLemmas.{by_cases, same_equal}
+use Rattle.vch_base.specs.Keyed.{of_key, with_key}
+use Rattle.vch_machine.specs.State.{Handles, no_handles}
+use Rattle.vch_base.specs.Keys.{every_key}
 use Rattle.vch_state.specs.Plain.{Plain}
 use Rattle.vch_state.specs.Shape.{Indices, Optional, IsIndexOf, AreIndices, IsKeyed, IsMap, index_of, slots_of}
 
 -- a number is that of a key, or of none
-pub by_key : (n : ℕ) (P : Type 0) → (key_of n ≡ None → P) → ((k : Key) → n ≡ number_of k → P) → P
-by_key n P none some = by (n == 2) (n == 3) (n == 7) refl refl refl
+pub by_key : (n : ℕ) (P : Type 0) → (key_numbered n ≡ None → P) → ((k : Key) → n ≡ number_of k → P) → P
+by_key n P none some = by (n == 2) (n == 3) (n == 7) (n == 8) refl refl refl refl
   where
-    by : (a b d : Bool) → (n == 2) ≡ a → (n == 3) ≡ b → (n == 7) ≡ d → P
-    by true b d p q r = some keys.Importance (grind (arith, common_steps))
-    by false true d p q r = some keys.Bank (grind (arith, common_steps))
-    by false false true p q r = some keys.User (grind (arith, common_steps))
-    by false false false p q r = none (rw (p, q, r) refl)
-
-other_number : (k q : Key) → k ≢ q → number_of q ≢ number_of k
-other_number keys.Importance keys.Importance n e = n refl
-other_number keys.Importance keys.Bank n e = cc
-other_number keys.Importance keys.User n e = cc
-other_number keys.Bank keys.Importance n e = cc
-other_number keys.Bank keys.Bank n e = n refl
-other_number keys.Bank keys.User n e = cc
-other_number keys.User keys.Importance n e = cc
-other_number keys.User keys.Bank n e = cc
-other_number keys.User keys.User n e = n refl
+    by : (a b d e : Bool) → (n == 2) ≡ a → (n == 3) ≡ b → (n == 7) ≡ d → (n == 8) ≡ e → P
+    by true b d e p q r s = some keys.Importance (grind (arith, common_steps))
+    by false true d e p q r s = some keys.Bank (grind (arith, common_steps))
+    by false false true e p q r s = some keys.User (grind (arith, common_steps))
+    by false false false true p q r s = some keys.Test (grind (arith, common_steps))
+    by false false false false p q r s = none (rw (p, q, r, s) refl)
 
 -- what a voucher has at one key
 pub at_key : (c : Plain) (k : Key) (v : Indices) (w : Handles) → IsMap c v w → Optional (IsIndexOf c k) (index_of k v) (of_key k w)
 at_key c keys.Importance v w p = p.0.0
 at_key c keys.Bank v w p = p.0.1.0
 at_key c keys.User v w p = p.0.1.1.0
+at_key c keys.Test v w p = p.0.1.1.1.0
 
 -- Equal vouchers.
 
@@ -68,27 +63,17 @@ maps_equal c v u w apart p q = same_equal v u p.1.bounded.rising q.1.bounded.ris
 
 -- and one list has the same handles
 pub handles_equal : (c : Plain) (v : Indices) (w x : Handles) → IsMap c v w → IsMap c v x → w ≡ x
-handles_equal c v w x p q =
-    let a : w.importance ≡ x.importance = same keys.Importance in
-    let b : w.bank ≡ x.bank = same keys.Bank in
-    let d : w.user ≡ x.user = same keys.User in
-    record_same w x a b d
-  where
-    same : (k : Key) → of_key k w ≡ of_key k x
-    same k = same_at c k (index_of k v) (of_key k w) (of_key k x) (at_key c k v w p) (at_key c k v x q)
-
-    record_same : (w x : Handles) → w.importance ≡ x.importance → w.bank ≡ x.bank → w.user ≡ x.user → w ≡ x
-    record_same w x a b d = rw (← a, ← b, ← d) refl
+handles_equal c v w x p q = equal_where_equal w x (λ k. same_at c k (index_of k v) (of_key k w) (of_key k x) (at_key c k v w p) (at_key c k v x q))
 
 -- A key is set.
 
 -- the voucher without a value
 pub map_empty : (c : Plain) → IsMap c [] no_handles
-map_empty c = ((tt, (tt, (tt, tt))), record { bounded = record { rising = tt; few = omega arith }; managed = λ n e. refl })
+map_empty c = ((tt, (tt, (tt, (tt, tt)))), record { bounded = record { rising = tt; few = omega arith }; managed = λ n e. refl })
 
 -- an index at a key is set, or gone, where its handle is
 pub map_with : (c : Plain) (k : Key) (v u : Indices) (w : Handles) (i h : Option ℕ) → Bounded u → SetsIndex v u (number_of k) i → Optional (IsIndexOf c k) i h → IsMap c v w → IsMap c u (with_key k h w)
-map_with c k v u w i h bounded sets index p = (indices k sets index, record { bounded = bounded; managed = managed })
+map_with c k v u w i h bounded sets index p = (indices sets index, record { bounded = bounded; managed = managed })
   where
     here : (k : Key) → SetsIndex v u (number_of k) i → Optional (IsIndexOf c k) i h → Optional (IsIndexOf c k) (index_of k u) h
     here k s x = rw s.here x
@@ -96,30 +81,61 @@ map_with c k v u w i h bounded sets index p = (indices k sets index, record { bo
     there : (k q : Key) → SetsIndex v u (number_of k) i → k ≢ q → Optional (IsIndexOf c q) (index_of q u) (of_key q w)
     there k q s n = rw (s.others (number_of q) (other_number k q n)) (at_key c q v w p)
 
-    indices : (k : Key) → SetsIndex v u (number_of k) i → Optional (IsIndexOf c k) i h → AreIndices c all_keys u (with_key k h w)
-    indices keys.Importance s x = (here keys.Importance s x, (there keys.Importance keys.Bank s (λ e. cc), (there keys.Importance keys.User s (λ e. cc), tt)))
-    indices keys.Bank s x = (there keys.Bank keys.Importance s (λ e. cc), (here keys.Bank s x, (there keys.Bank keys.User s (λ e. cc), tt)))
-    indices keys.User s x = (there keys.User keys.Importance s (λ e. cc), (there keys.User keys.Bank s (λ e. cc), (here keys.User s x, tt)))
+    one : (q : Key) → SetsIndex v u (number_of k) i → Optional (IsIndexOf c k) i h → Optional (IsIndexOf c q) (index_of q u) (of_key q (with_key k h w))
+    one q s x = elim (key_cases q k) [
+      | inl same ↦ subst (λ j. Optional (IsIndexOf c j) (index_of j u) (of_key j (with_key k h w))) (sym same)
+          (subst (Optional (IsIndexOf c k) (index_of k u)) (sym (of_with k h w)) (here k s x))
+      | inr other ↦ subst (Optional (IsIndexOf c q) (index_of q u)) (sym (with_of q k h w ∙ ap (λ b. cond b h (of_key q w)) other))
+          (there k q s (λ e. not_same q k other (sym e)))
+    ]
+      where
+        not_same : (q k : Key) → same_key q k ≡ false → q ≢ k
+        not_same q k other e = let z : same_key k k ≡ false = subst (λ j. same_key j k ≡ false) e other in let y : same_key k k ≡ true = same_key_refl k in cc
 
-    number_there : (k : Key) (n : ℕ) → key_of n ≡ None → n ≢ number_of k
-    number_there keys.Importance n e q = let z : key_of 2 ≡ None = sym (ap key_of q) ∙ e in cc
-    number_there keys.Bank n e q = let z : key_of 3 ≡ None = sym (ap key_of q) ∙ e in cc
-    number_there keys.User n e q = let z : key_of 7 ≡ None = sym (ap key_of q) ∙ e in cc
+    indices : SetsIndex v u (number_of k) i → Optional (IsIndexOf c k) i h → AreIndices c every_key u (with_key k h w)
+    indices s x = (one keys.Importance s x, (one keys.Bank s x, (one keys.User s x, (one keys.Test s x, tt))))
 
-    managed : (n : ℕ) → key_of n ≡ None → index_at u n ≡ None
+    number_there : (k : Key) (n : ℕ) → key_numbered n ≡ None → n ≢ number_of k
+    number_there keys.Importance n e q = let z : key_numbered 2 ≡ None = sym (ap key_numbered q) ∙ e in cc
+    number_there keys.Bank n e q = let z : key_numbered 3 ≡ None = sym (ap key_numbered q) ∙ e in cc
+    number_there keys.User n e q = let z : key_numbered 7 ≡ None = sym (ap key_numbered q) ∙ e in cc
+    number_there keys.Test n e q = let z : key_numbered 8 ≡ None = sym (ap key_numbered q) ∙ e in cc
+
+    managed : (n : ℕ) → key_numbered n ≡ None → index_at u n ≡ None
     managed n e = sets.others n (number_there k n e) ∙ p.1.managed n e
 
--- there is always room for a key: no more than three have a manager
+-- There is always room for a key that the voucher has not: no more than four have a manager.
 
-low_number : (n : ℕ) (k : Key) → n ≡ number_of k → 2 ≤ n
-low_number n keys.Importance e = omega (arith, e)
-low_number n keys.Bank e = omega (arith, e)
-low_number n keys.User e = omega (arith, e)
+-- a number of a key
+record IsNumber (n : ℕ) : Type 0 where
+  low : 2 ≤ n
+  high : n ≤ 8
+  none_between : 4 ≤ n → 7 ≤ n
 
-high_number : (n : ℕ) (k : Key) → n ≡ number_of k → 4 ≤ n → n ≡ 7
-high_number n keys.Importance e l = absurd (omega (arith, e))
-high_number n keys.Bank e l = absurd (omega (arith, e))
-high_number n keys.User e l = e
+number_is : (n : ℕ) (k : Key) → n ≡ number_of k → IsNumber n
+number_is n keys.Importance e = record { low = omega (arith, e); high = omega (arith, e); none_between = λ l. absurd (omega (arith, e, l)) }
+number_is n keys.Bank e = record { low = omega (arith, e); high = omega (arith, e); none_between = λ l. absurd (omega (arith, e, l)) }
+number_is n keys.User e = record { low = omega (arith, e); high = omega (arith, e); none_between = λ l. omega (arith, e) }
+number_is n keys.Test e = record { low = omega (arith, e); high = omega (arith, e); none_between = λ l. omega (arith, e) }
+
+-- four of them that rise are all
+all_four : (a b d e : ℕ) → a < b → b < d → d < e → IsNumber a → IsNumber b → IsNumber d → IsNumber e → (a ≡ 2) × (b ≡ 3) × (d ≡ 7) × (e ≡ 8)
+all_four a b d e p q r x y z w =
+    let low : 2 ≤ a = x.low in
+    let high : e ≤ 8 = w.high in
+    let far : 7 ≤ d = z.none_between (omega (arith, low, p, q)) in
+    let near : b ≤ 3 = elim (small b) [ inl l ↦ l | inr l ↦ absurd (below (y.none_between l) far) ] in
+    (omega (arith, low, p, near), omega (arith, low, p, near), omega (arith, far, high, r), omega (arith, far, high, r))
+  where
+    small : (n : ℕ) → (n ≤ 3) ⊎ (4 ≤ n)
+    small n = omega_cases (nat_le n 3) refl
+      where
+        omega_cases : (c : Bool) → nat_le n 3 ≡ c → (n ≤ 3) ⊎ (4 ≤ n)
+        omega_cases true e = inl (grind (arith, common_steps))
+        omega_cases false e = inr (grind (arith, common_steps))
+
+    below : 7 ≤ b → 7 ≤ d → ⊥
+    below l m = omega (arith, l, m, q, r, w.high)
 
 behind_some : (a : KeyedIndex) (xs : List KeyedIndex) (n : ℕ) → index_at xs n ≢ None → index_at (a ∷ xs) n ≢ None
 behind_some a xs n s = by_cases (a.key == n) (λ b. cond b (Some a.index) (index_at xs n) ≡ None → ⊥) (λ q e. absurd (cc)) (λ q e. s e)
@@ -130,18 +146,27 @@ first_some a xs = by_cases (a.key == a.key) (λ b. cond b (Some a.index) (index_
     differs : (a.key == a.key) ≡ false → ⊥
     differs q = let e : (a.key == a.key) ≡ true = grind (arith, common_steps) in cc
 
-pub keyed_few : (v : Indices) → IsKeyed v → length v < 4
-keyed_few v p = by v p.managed p.bounded.rising
+-- a voucher of four keys has each of them
+four_keys : (a b d e : KeyedIndex) → (a.key ≡ 2) × (b.key ≡ 3) × (d.key ≡ 7) × (e.key ≡ 8) → (k : Key) → index_at (a ∷ b ∷ d ∷ e ∷ []) (number_of k) ≢ None
+four_keys a b d e s keys.Importance = subst (λ n. index_at (a ∷ b ∷ d ∷ e ∷ []) n ≢ None) s.0 (first_some a (b ∷ d ∷ e ∷ []))
+four_keys a b d e s keys.Bank = subst (λ n. index_at (a ∷ b ∷ d ∷ e ∷ []) n ≢ None) s.1
+    (behind_some a (b ∷ d ∷ e ∷ []) b.key (first_some b (d ∷ e ∷ [])))
+four_keys a b d e s keys.User = subst (λ n. index_at (a ∷ b ∷ d ∷ e ∷ []) n ≢ None) s.2
+    (behind_some a (b ∷ d ∷ e ∷ []) d.key (behind_some b (d ∷ e ∷ []) d.key (first_some d (e ∷ []))))
+four_keys a b d e s keys.Test = subst (λ n. index_at (a ∷ b ∷ d ∷ e ∷ []) n ≢ None) s.3
+    (behind_some a (b ∷ d ∷ e ∷ []) e.key (behind_some b (d ∷ e ∷ []) e.key (behind_some d (e ∷ []) e.key (first_some e []))))
+
+pub room_for : (v : Indices) (k : Key) → IsKeyed v → index_at v (number_of k) ≡ None → length v < 4
+room_for v k p = by v p.managed p.bounded.rising p.bounded.few
   where
-    by : (v : Indices) → ((n : ℕ) → key_of n ≡ None → index_at v n ≡ None) → IsRising v → length v < 4
-    by [] m r = omega arith
-    by (a ∷ []) m r = omega arith
-    by (a ∷ b ∷ []) m r = omega arith
-    by (a ∷ b ∷ d ∷ []) m r = omega arith
-    by (a ∷ b ∷ d ∷ e ∷ rest) m r = absurd (by_key a.key ⊥ (λ z. first_some a (b ∷ d ∷ e ∷ rest) (m a.key z))
-        (λ k i. by_key d.key ⊥ (λ z. behind_some a (b ∷ d ∷ e ∷ rest) d.key (behind_some b (d ∷ e ∷ rest) d.key (first_some d (e ∷ rest))) (m d.key z))
-        (λ q j. by_key e.key ⊥ (λ z. behind_some a (b ∷ d ∷ e ∷ rest) e.key (behind_some b (d ∷ e ∷ rest) e.key (behind_some d (e ∷ rest) e.key (first_some e rest))) (m e.key z))
-        (λ x l. too_many a.key b.key d.key e.key (low_number a.key k i) r.0.0 r.1.0.0 r.1.1.0.0 (high_number d.key q j) (high_number e.key x l)))))
-      where
-        too_many : (a b d e : ℕ) → 2 ≤ a → a < b → b < d → d < e → (4 ≤ d → d ≡ 7) → (4 ≤ e → e ≡ 7) → ⊥
-        too_many a b d e p q r s f g = let x : d ≡ 7 = f (omega arith) in let y : e ≡ 7 = g (omega arith) in omega (arith, x, y)
+    by : (v : Indices) → ((n : ℕ) → key_numbered n ≡ None → index_at v n ≡ None) → IsRising v → length v ≤ 4 → index_at v (number_of k) ≡ None → length v < 4
+    by [] m r l z = omega arith
+    by (a ∷ []) m r l z = omega arith
+    by (a ∷ b ∷ []) m r l z = omega arith
+    by (a ∷ b ∷ d ∷ []) m r l z = omega arith
+    by (a ∷ b ∷ d ∷ e ∷ []) m r l z = absurd (by_key a.key ⊥ (λ q. first_some a (b ∷ d ∷ e ∷ []) (m a.key q))
+        (λ i x. by_key b.key ⊥ (λ q. behind_some a (b ∷ d ∷ e ∷ []) b.key (first_some b (d ∷ e ∷ [])) (m b.key q))
+        (λ j y. by_key d.key ⊥ (λ q. behind_some a (b ∷ d ∷ e ∷ []) d.key (behind_some b (d ∷ e ∷ []) d.key (first_some d (e ∷ []))) (m d.key q))
+        (λ n w. by_key e.key ⊥ (λ q. behind_some a (b ∷ d ∷ e ∷ []) e.key (behind_some b (d ∷ e ∷ []) e.key (behind_some d (e ∷ []) e.key (first_some e []))) (m e.key q))
+        (λ o u. four_keys a b d e (all_four a.key b.key d.key e.key r.0.0 r.1.0.0 r.1.1.0.0 (number_is a.key i x) (number_is b.key j y) (number_is d.key n w) (number_is e.key o u)) k z)))))
+    by (a ∷ b ∷ d ∷ e ∷ f ∷ rest) m r l z = absurd (omega (arith, l))

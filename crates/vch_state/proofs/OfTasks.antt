@@ -6,14 +6,14 @@ use Rattle.vch_model.specs.declared.call.Line.{Line}
 use Rattle.vch_model.specs.Scenarios.{IsIn}
 use Rattle.vch_state.specs.Bounds.{IsOfTask, AreOfTasks}
 
-lines_of_task : (tasks : ℕ) (lines : List Line) → AllByRecursion (λ l. IsIn tasks l) lines → AllByRecursion (IsOfTask tasks) lines
-lines_of_task tasks [] h = tt
-lines_of_task tasks (l ∷ lines) h = ((h.0.0, h.0.1), lines_of_task tasks lines h.1)
+lines_of_task : (version tasks : ℕ) (lines : List Line) → AllByRecursion (λ l. IsIn version tasks l) lines → AllByRecursion (IsOfTask tasks) lines
+lines_of_task version tasks [] h = tt
+lines_of_task version tasks (l ∷ lines) h = ((h.0.0, h.0.1), lines_of_task version tasks lines h.1)
 
 -- what a scenario within the limits has
-pub of_tasks : (tasks : ℕ) (phases : List (List Line)) → AllByRecursion (λ p. AllByRecursion (λ l. IsIn tasks l) p) phases → AreOfTasks tasks phases
-of_tasks tasks [] h = tt
-of_tasks tasks (p ∷ phases) h = (lines_of_task tasks p h.0, of_tasks tasks phases h.1)
+pub of_tasks : (version tasks : ℕ) (phases : List (List Line)) → AllByRecursion (λ p. AllByRecursion (λ l. IsIn version tasks l) p) phases → AreOfTasks tasks phases
+of_tasks version tasks [] h = tt
+of_tasks version tasks (p ∷ phases) h = (lines_of_task version tasks p h.0, of_tasks version tasks phases h.1)
 
 pub item_of : {A : Type 0} (P : A → Type 0) (xs : List A) (i : ℕ) (x : A) → AllByRecursion P xs → slice_get xs i ≡ Some x → P x
 item_of P [] i x h e = absurd (cc)

@@ -1,9 +1,8 @@
 -- All claims of the machine are changed alike, and keep their places and answers: the parts stand for what they stood for,
 -- and the claims of a picture are changed alike.
-use Rattle.std.proofs.Common.{◌≡◌, ℕ, ◌+◌, ◌==◌, ◌&&◌, not, Bool, true, false, cond, List, [], ◌∷◌, refl, sym, ap, ◌∙◌, length, map, get_or, subst, Option, Some, None}
+use Rattle.std.proofs.Common.{◌≡◌, ℕ, ◌+◌, ◌==◌, ◌&&◌, not, Bool, true, false, cond, List, [], ◌∷◌, refl, sym, ap, ◌∙◌, length, map, subst, Option, Some, None}
 use Rattle.std.specs.Prelude.{is_some}
 use Rattle.std.specs.List.{flat_map}
-use Rattle.std.proofs.Math.ListN.{get_or-map}
 use Rattle.std.proofs.lemmas.List.{length-map}
 use Rattle.vch_base.specs.declared.key.Key.{Key}
 use Rattle.vch_value.specs.Picture.{Claimed, bring, race}
@@ -13,13 +12,14 @@ use Rattle.vch_machine.specs.State as machine
 use Rattle.vch_machine.specs.State.{Claim, Place, same_place, Machine, Tasked, tasked, idle}
 use Rattle.vch_machine.specs.Making.{race_claim, back_claim, on_claim, on_frame, on_task, on_claims}
 use Rattle.vch_machine.specs.Next.{current, nth_call}
-use Rattle.vch_legal.proofs.TaskLists.{flat_map_map}
-use Rattle.vch_legal.proofs.SeenTasks.{claims_task}
+use Rattle.vch_legal.proofs.CallerLemmas.{flat_map_map}
+use Rattle.vch_legal.proofs.CallerLemmas.{claims_task}
 use Rattle.vch_state.specs.declared.frame.Frame.{Frame}
 use Rattle.vch_state.specs.declared.frame.Claiming.{Claiming}
 use Rattle.vch_state.specs.Plain.{Plain, Part, part_of}
 use Rattle.vch_state.specs.Shape.{Shape, Optional, IsClaim, IsFrame, IsTask}
-use Rattle.vch_state.specs.Pictures.{Both, both, picture_of, task_holds, frame_holds, frame_claimed, claimed_of, both_claimed, claimed, sync_of, same_key}
+use Rattle.vch_state.specs.Pictures.{Both, both, picture_of, task_holds, frame_holds, frame_claimed, claimed_of, both_claimed, claimed, sync_of}
+use Rattle.vch_base.specs.Keys.{same_key}
 use Rattle.vch_state.specs.Bounds.{Spent, TaskSpent, rank, makes, open_of, flying_of, in_all, rank_in, makes_in, begun_in, open_in, flying_in, references_in, unanswered_in}
 use Rattle.vch_state.proofs.Sums.{sum_mapped}
 use Rattle.vch_state.proofs.Spending.{work_same, makes_same}
@@ -89,7 +89,7 @@ module _ (g : Claim → Claim) (keeps : Keeps g) where
 
   frame_on : (c : Plain) (call : Option Call) (f : Option Frame) (o : Option machine.Frame) → Optional (IsFrame c call) f o → Optional (IsFrame c call) f (on_frame g o)
   frame_on c call None None p = tt
-  frame_on c call (Some f) (Some o) p = record { forming = p.forming; at_byte = p.at_byte; keys_ = p.keys_; receipt = p.receipt; lets = p.lets; claim = claim_on c f.claim o.claim p.claim; forms = p.forms; takes = p.takes }
+  frame_on c call (Some f) (Some o) p = record { forming = p.forming; at_byte = p.at_byte; answered = p.answered; keys_ = p.keys_; receipt = p.receipt; lets = p.lets; claim = claim_on c f.claim o.claim p.claim; forms = p.forms; takes = p.takes }
   frame_on c call None (Some o) p = absurd p
   frame_on c call (Some f) None p = absurd p
 
@@ -186,7 +186,7 @@ module _ (g : Claim → Claim) (keeps : Keeps g) where
       references = rw (references_on, opens_on, begun_on) s.references;
       past = rw (opens_on, flights_on, begun_on) s.past;
       phases = s.phases;
-      tasks = λ i. subst (TaskSpent sc (i + 1)) (sym (get_or-map (on_task g) m.tasks i idle)) (task_spent (i + 1) (get_or m.tasks i idle) (s.tasks i));
+      tasks = λ t. subst (TaskSpent sc t) (sym (claims_task m g t)) (task_spent t (tasked m t) (s.tasks t));
     }
       where
         task_spent : (t : ℕ) (x : Tasked) → TaskSpent sc t x → TaskSpent sc t (on_task g x)

@@ -1,6 +1,6 @@
 -- A frame's claim is replaced: what stands then, and the claim's place in the picture.
+use Rattle.vch_base.specs.Tasks.{set_task}
 use Rattle.std.proofs.Common.{◌≡◌, ℕ, ◌-◌, ◌<◌, Bool, false, List, [], ◌∷◌, ◌++◌, refl, sym, ap, ◌∙◌, length, subst, Option, Some, None}
-use Rattle.std.proofs.Math.ListN.{set}
 use Rattle.std.specs.List.{flat_map}
 use Rattle.vch_base.specs.declared.key.Key.{Key}
 use Rattle.vch_base.specs.declared.places.Live.{Live}
@@ -9,11 +9,11 @@ use Rattle.vch_entry.specs.declared.table.Entry.{Entry}
 use Rattle.vch_table.specs.declared.indices.KeyedIndex.{KeyedIndex}
 use Rattle.vch_value.specs.Picture as picture
 use Rattle.vch_value.specs.Picture.{Picture, Claimed, Meets, IsClaimed, IsDead, IsTaken, IsKept, claims_at, flags_at, entry_of, default_of, with_claims}
-use Rattle.vch_value.proofs.Lists.{claims_here}
-use Rattle.vch_value.proofs.Claims.{only}
+use Rattle.vch_value.proofs.CallerLemmas.{claims_here, only}
 use Rattle.vch_model.specs.declared.lists.Scenario.{Scenario}
 use Rattle.vch_machine.specs.State as machine
-use Rattle.vch_machine.specs.State.{of_key, Handles, Place, Machine, Tasked, tasked}
+use Rattle.vch_base.specs.Keyed.{of_key}
+use Rattle.vch_machine.specs.State.{Handles, Place, Machine, Tasked, tasked}
 use Rattle.vch_machine.specs.Next.{current}
 use Rattle.vch_state.specs.declared.frame.Frame.{Frame}
 use Rattle.vch_state.specs.declared.frame.Claiming.{Claiming}
@@ -23,7 +23,7 @@ use Rattle.vch_state.specs.Shape.{IsFrame}
 use Rattle.vch_state.specs.Pictures.{picture_of, cell_holds, frame_holds, receipts_of, frame_claimed, claimed_of, claimed, sync_of}
 use Rattle.vch_state.specs.Stands.{StandsFor}
 use Rattle.vch_state.proofs.Replaced.{picture_by, claims_before, claims_behind, picture_now, picture_then, framed}
-use Rattle.vch_state.proofs.Keys.{same_key_refl}
+use Rattle.vch_state.proofs.KeyCases.{same_key_refl}
 use Rattle.vch_state.proofs.FrameParts.{frames_of}
 use Rattle.vch_state.proofs.LetsGo.{leaving_frame, leaving_machine}
 
@@ -43,7 +43,7 @@ module _ (sc : Scenario) (k : Key) (c : Plain) (m : Machine) (t : ℕ) (positive
   P = picture_by k c m t (Some (F x)) (Some (G (Some y)))
 
   pub is_now : picture_of k c m ≡ P
-  is_now = picture_now k c m t s.shape.long inside ∙ rw (own, task) refl
+  is_now = picture_now k c m t positive s.shape.long inside ∙ rw (own, task) refl
 
   abbrev pub own_claim : Claimed
   own_claim = claimed (sync_of x) y
@@ -79,14 +79,14 @@ module _ (sc : Scenario) (k : Key) (c : Plain) (m : Machine) (t : ℕ) (positive
 
   -- the picture after: the claim is another, or none
   module _ (d : Plain) (n : Machine) (f2 : Option Frame) (g2 : Option machine.Frame) (x2 : Claiming) (y2 : Option machine.Claim)
-      (parts : d.tasks ≡ set c.tasks (t - 1) (with_frame (part_of c t) f2))
-      (tasks : n.tasks ≡ set m.tasks (t - 1) (framed (tasked m t) g2))
+      (parts : d.tasks ≡ set_task c.tasks t (with_frame (part_of c t) f2))
+      (tasks : n.tasks ≡ set_task m.tasks t (framed (tasked m t) g2))
       (cells : flat_map (cell_holds d k) d.table ≡ flat_map (cell_holds c k) c.table)
       (holds : frame_holds k g2 ≡ frame_holds k (Some (G y2)))
       (receipts : receipts_of k f2 ≡ receipts_of k (Some (F x2)))
       (claims : frame_claimed k f2 g2 ≡ frame_claimed k (Some (F x2)) (Some (G y2))) where
     pub picture_after : picture_of k d n ≡ with_claims P (claims_before k c m t ++ (claimed_of k x2 y2 ++ claims_behind k c m t))
-    picture_after = picture_then k c m t s.shape.long inside d n f2 g2 parts tasks cells ∙ rw (holds, receipts, claims) refl
+    picture_after = picture_then k c m t positive s.shape.long inside d n f2 g2 parts tasks cells ∙ rw (holds, receipts, claims) refl
 
 -- What a claim that was not asked has.
 

@@ -1,5 +1,5 @@
 -- In a state that a core stands for, the live values are those of user data, and Default.
-use Rattle.std.proofs.Common.{◌≡◌, ℕ, suc, ◌+◌, ◌-◌, ◌<◌, ◌==◌, ◌&&◌, Bool, true, false, List, [], ◌∷◌, refl, arith, sym, ap, ◌∙◌, subst, length, get_or, Option, Some, None}
+use Rattle.std.proofs.Common.{◌≡◌, ℕ, suc, ◌-◌, ◌<◌, ◌==◌, ◌&&◌, Bool, true, false, List, [], ◌∷◌, refl, arith, sym, ap, ◌∙◌, subst, length, get_or, Option, Some, None}
 use Rattle.std.specs.Prelude.{is_some}
 use Rattle.std.specs.List.{list_any, flat_map}
 use Rattle.vch_base.specs.declared.key.Key.{Key}
@@ -14,7 +14,8 @@ use Rattle.vch_model.specs.declared.call.Call.{Call}
 use Rattle.vch_model.specs.declared.call.Call.TheVariants as calls
 use Rattle.vch_model.specs.declared.lists.Scenario.{Scenario}
 use Rattle.vch_machine.specs.State as machine
-use Rattle.vch_machine.specs.State.{of_key, Handles, Place, same_place, Living, Named, Message, Claim, Tasked, Machine, tasked, idle, living_at, handle_of, is_handle, has_place, option_has, frame_holds, task_holds, is_held, is_place, frame_expects, is_expected, claim_at, frame_claims, claims_on, default_place, default_living}
+use Rattle.vch_base.specs.Keyed.{of_key}
+use Rattle.vch_machine.specs.State.{Handles, Place, same_place, Living, Named, Message, Claim, Tasked, Machine, tasked, idle, living_at, handle_of, is_handle, has_place, option_has, frame_holds, task_holds, is_held, is_place, frame_expects, is_expected, claim_at, frame_claims, claims_on, default_place, default_living}
 use Rattle.vch_machine.specs.Next.{current}
 use Rattle.vch_machine.specs.Leaving.{is_fixed, is_fixed_value}
 use Rattle.vch_legal.specs.Facts.{spot_fits, Fits}
@@ -44,6 +45,7 @@ apart : (k : Key) → (k ≡ keys.User → ⊥) → (number_of keys.User == numb
 apart keys.Importance n = refl
 apart keys.Bank n = refl
 apart keys.User n = absurd (n refl)
+apart keys.Test n = refl
 
 module _ (p : Parts) (q : Place) (other : q.key ≡ keys.User → ⊥) where
   other_place : (r : Place) → r.key ≡ keys.User → same_place r q ≡ false
@@ -62,6 +64,7 @@ module _ (p : Parts) (q : Place) (other : q.key ≡ keys.User → ⊥) where
   map_none keys.Importance v w n h = none_of keys.Importance _ w.importance n h.0.0
   map_none keys.Bank v w n h = none_of keys.Bank _ w.bank n h.0.1.0
   map_none keys.User v w n h = absurd (n refl)
+  map_none keys.Test v w n h = none_of keys.Test _ w.test n h.0.1.1.1.0
 
   map_lacks : (v : Indices) (w : Handles) → IsMap (plain_of p) v w → has_place w q ≡ false
   map_lacks v w h = ap (λ o. is_handle o q.handle) (map_none q.key v w other h)
@@ -113,6 +116,7 @@ module _ (p : Parts) (q : Place) (other : q.key ≡ keys.User → ⊥) where
   takes_key (Some calls.Ledger) at r h = absurd h
   takes_key (Some calls.Assertions) at r h = absurd h
   takes_key (Some calls.Live) at r h = absurd h
+  takes_key (Some calls.Exit) at r h = absurd h
 
   receipt_lacks : (call : Option Call) (at : ℕ) (r : Option KeyReceipt) (s : Option Place) → Optional IsReceipt r s → TakesUser call at r → is_place s q ≡ false
   receipt_lacks call at None None h t = refl
@@ -145,20 +149,17 @@ module _ (p : Parts) (q : Place) (other : q.key ≡ keys.User → ⊥) where
   task_lacks call x y s = rw (names_lack x.names y.names s.names, queue_lacks x.queue y.queue s.queue, (frame_lacks call x.frame y.frame s.frame).0) refl
 
   module _ (sc : Scenario) (m : Machine) (s : Shape sc (plain_of p) m) where
-    at_place : (i : ℕ) → i < length m.tasks → IsTask (plain_of p) (current sc m (i + 1)) (part_of (plain_of p) (i + 1)) (tasked m (i + 1))
-    at_place i l = let e : (i + 1) - 1 ≡ i = omega arith in let a : length (plain_of p).tasks ≡ length m.tasks = s.long in s.tasks (i + 1) (omega arith) (omega (arith, e, a, l))
-
-    back : (i : ℕ) → tasked m (i + 1) ≡ get_or m.tasks i idle
-    back i = let e : (i + 1) - 1 ≡ i = omega arith in ap (λ j. get_or m.tasks j idle) e
+    at_place : (i : ℕ) → i < length m.tasks → IsTask (plain_of p) (current sc m (suc i)) (part_of (plain_of p) (suc i)) (tasked m (suc i))
+    at_place i l = let e : suc i - 1 ≡ i = omega arith in let a : length (plain_of p).tasks ≡ length m.tasks = s.long in s.tasks (suc i) (omega arith) (omega (arith, e, a, l))
 
     not_held : is_held m q ≡ false
-    not_held = none_any (task_holds q) idle m.tasks (λ i l. subst (λ (y : Tasked). task_holds q y ≡ false) (back i) (task_lacks _ _ (tasked m (i + 1)) (at_place i l)))
+    not_held = none_any (task_holds q) idle m.tasks (λ i l. task_lacks _ _ (tasked m (suc i)) (at_place i l))
 
     not_expected : is_expected m q ≡ false
-    not_expected = none_any (λ (t : Tasked). frame_expects t.frame q) idle m.tasks (λ i l. subst (λ (y : Tasked). frame_expects y.frame q ≡ false) (back i) (frame_lacks (current sc m (i + 1)) (part_of (plain_of p) (i + 1)).frame (tasked m (i + 1)).frame (at_place i l).frame).1)
+    not_expected = none_any (λ (t : Tasked). frame_expects t.frame q) idle m.tasks (λ i l. (frame_lacks (current sc m (suc i)) (part_of (plain_of p) (suc i)).frame (tasked m (suc i)).frame (at_place i l).frame).1)
 
     not_claimed : claims_on m q ≡ []
-    not_claimed = none_flat (λ (t : Tasked). frame_claims t.frame q) idle m.tasks (λ i l. subst (λ (y : Tasked). frame_claims y.frame q ≡ []) (back i) (frame_lacks (current sc m (i + 1)) (part_of (plain_of p) (i + 1)).frame (tasked m (i + 1)).frame (at_place i l).frame).2)
+    not_claimed = none_flat (λ (t : Tasked). frame_claims t.frame q) idle m.tasks (λ i l. (frame_lacks (current sc m (suc i)) (part_of (plain_of p) (suc i)).frame (tasked m (suc i)).frame (at_place i l).frame).2)
 
     fixed_by : (b fixed h x : Bool) (cs : List Claim) → h ≡ false → x ≡ false → cs ≡ [] → spot_fits (record { live = b; fixed = fixed; held = h; expected = x; claims = cs }) ≡ true → b ≡ true → fixed ≡ true
     fixed_by b true h x cs a d e f l = refl
@@ -191,6 +192,7 @@ default_alone sc m q a f e d = by_value q.key a.value refl refl (f.values q a e)
         ap (λ (k : Key). at k q.handle) g ∙ ap (at keys.Bank) four
     by_value keys.Importance values.Default g h b d = absurd (subst (λ (k : Key). Belongs k values.Default) g (subst (Belongs q.key) h b))
     by_value keys.User values.Default g h b d = absurd (subst (λ (k : Key). Belongs k values.Default) g (subst (Belongs q.key) h b))
+    by_value keys.Test values.Default g h b d = absurd (subst (λ (k : Key). Belongs k values.Default) g (subst (Belongs q.key) h b))
     by_value k (values.User bytes) g h b d = let i : is_default a.value ≡ false = ap is_default h in absurd (cc)
     by_value k (values.Chain list) g h b d = let i : is_default a.value ≡ false = ap is_default h in absurd (cc)
     by_value k (values.Task t) g h b d = let i : is_default a.value ≡ false = ap is_default h in absurd (cc)

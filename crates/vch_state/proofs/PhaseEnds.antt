@@ -1,5 +1,8 @@
 -- The end of a phase: what a core is owed, and what it stands for afterwards; and when it comes, by the tasks' next events.
-use Rattle.std.proofs.Common.{◌≡◌, ℕ, ◌+◌, ◌-◌, ◌<◌, ◌≤◌, ◌&&◌, nat_lt, true, false, List, [], ◌∷◌, ◌++◌, refl, arith, sym, ap, ◌∙◌, subst, length, reverse, Option, Some, None, IsTrue}
+use Rattle.vch_model.specs.declared.call.Call as calls
+use Rattle.std.specs.List.{list_all}
+use Rattle.vch_machine.specs.Events.{is_at_rest, all_at_rest}
+use Rattle.std.proofs.Common.{◌≡◌, ℕ, ◌+◌, ◌<◌, ◌≤◌, ◌&&◌, nat_lt, true, false, List, [], ◌∷◌, ◌++◌, refl, arith, sym, ap, ◌∙◌, subst, length, reverse, Option, Some, None, IsTrue, not, Bool}
 use Rattle.std.specs.Prelude.{is_some, if◌then◌else◌}
 use Rattle.std.specs.List.{AllByRecursion}
 use Rattle.std.proofs.lemmas.Grind.{common_steps}
@@ -13,12 +16,12 @@ use Rattle.vch_machine.specs.State as machine
 use Rattle.vch_machine.specs.State.{Machine, tasked, is_empty}
 use Rattle.vch_machine.specs.Next.{current, next_kind}
 use Rattle.vch_machine.specs.Frames.{noted}
-use Rattle.vch_machine.specs.Events.{numbers, ready, phase_event}
+use Rattle.vch_machine.specs.Events.{numbers, phase_event}
 use Rattle.vch_machine.specs.Schedules.{Move}
-use Rattle.vch_legal.proofs.AtRest.{Rests, task_rests}
-use Rattle.vch_legal.proofs.Keeps.{phase_keeps}
-use Rattle.vch_legal.proofs.Runs.{reached_stands}
-use Rattle.vch_legal.proofs.Turns.{all_numbers}
+use Rattle.vch_legal.proofs.CallerLemmas.{Rests, task_rests, none_next_rests}
+use Rattle.vch_legal.proofs.CallerLemmas.{phase_keeps}
+use Rattle.vch_legal.proofs.CallerLemmas.{reached_stands}
+use Rattle.vch_legal.proofs.CallerLemmas.{all_numbers}
 use Rattle.vch_state.specs.declared.frame.Frame.{Frame}
 use Rattle.vch_state.specs.declared.parts.Parts.{Parts}
 use Rattle.vch_state.specs.Plain.{Plain, Part, part_of, begun_of, working_of, names_of}
@@ -30,7 +33,7 @@ use Rattle.vch_state.specs.Nexts.{task_kind}
 use Rattle.vch_state.specs.Phases.{IsQuiet, IsOver, IsPhaseEnd, PhaseFollows}
 use Rattle.vch_state.proofs.Stable.{task_stays}
 use Rattle.vch_state.proofs.Glue.{in_parts, from_reached}
-use Rattle.vch_state.proofs.NextKinds.{next_agrees, part_is}
+use Rattle.vch_state.proofs.NextKinds.{next_agrees, part_at}
 use Rattle.vch_state.proofs.RunOn.{run_on}
 
 -- What a core is owed.
@@ -60,11 +63,11 @@ number_within sc t e = by t (length sc.flags) e
     by : (t n : ℕ) → (nat_lt 0 t && nat_lt t (n + 1)) ≡ true → (0 < t) × (t ≤ n)
     by t n e = let a : 0 < t = grind (arith, common_steps) in let b : t ≤ n = grind (arith, common_steps) in (a, b)
 
--- No task is ready.
+-- Every task is at rest.
 
-ready_none : (sc : Scenario) (m : Machine) (ts : List ℕ) → AllByRecursion (λ t. next_kind sc m t ≡ None) ts → ready sc m ts ≡ []
-ready_none sc m [] h = refl
-ready_none sc m (t ∷ ts) h = rw h.0 (ready_none sc m ts h.1)
+all_true : (f : ℕ → Bool) (ts : List ℕ) → AllByRecursion (λ t. f t ≡ true) ts → list_all f ts ≡ true
+all_true f [] h = refl
+all_true f (t ∷ ts) h = rw (h.0, all_true f ts h.1) refl
 
 not_below : (a b : ℕ) → b ≤ a → nat_lt a b ≡ false
 not_below a b h = grind (arith, common_steps)
@@ -82,10 +85,28 @@ quiet_next p t e q = λ m s. quiet_rests p t m e q s
 
 -- The end.
 
-ends_phase : (sc : Scenario) (m : Machine) → ((t : ℕ) → is_task sc t ≡ true → next_kind sc m t ≡ None) → phases_in m.past < length sc.phases → phase_event sc m ≡ Some (noted m entries.Phase)
+no_twin : (c : Plain) (call : Option calls.Call) (o : Option Frame) (p : Option machine.Frame) → o ≡ None → Optional (IsFrame c call) o p → p ≡ None
+no_twin c call None None e h = refl
+no_twin c call None (Some g) e h = absurd h
+no_twin c call (Some f) p e h = absurd (cc)
+
+-- a quiet task is at rest in each state that the parts stand for
+at_rest : (p : Parts) (t : ℕ) (m : Machine) → is_task p.scenario t ≡ true → IsQuiet p t → IsState p.scenario (plain_of p) m → is_at_rest p.scenario (phases_in m.past) t (tasked m t) ≡ true
+unfolding IsState
+at_rest p t m e q s =
+    let n = in_parts p.scenario _ (plain_of p) m t s.1 e in
+    let own : IsTask (plain_of p) (current p.scenario m t) (part_of (plain_of p) t) (tasked m t) = s.1.shape.tasks t n.0 n.1 in
+    let twin : part_of (plain_of p) t ≡ _ = part_at p.spaces p.frames t n.1 in
+    let none : (tasked m t).frame ≡ None = no_twin (plain_of p) (current p.scenario m t) (part_of (plain_of p) t).frame (tasked m t).frame (ap (λ (x : Part). x.frame) twin ∙ q.frame) own.frame in
+    let begun : begun_of p.frames t ≡ (tasked m t).begun = sym (ap (λ (x : Part). x.begun) twin) ∙ own.begun in
+    let low : nat_lt (begun_of p.frames t) (lines_until p.scenario (p.phase + 1) t) ≡ false = not_below (begun_of p.frames t) (lines_until p.scenario (p.phase + 1) t) q.begun in
+    ap (λ (o : Option machine.Frame). not (is_some o) && not (nat_lt (tasked m t).begun (lines_until p.scenario (phases_in m.past + 1) t))) none
+    ∙ ap not (ap (λ k. nat_lt k (lines_until p.scenario (phases_in m.past + 1) t)) (sym begun) ∙ (ap (λ k. nat_lt (begun_of p.frames t) (lines_until p.scenario (k + 1) t)) (sym s.1.phase) ∙ low))
+
+ends_phase : (sc : Scenario) (m : Machine) → ((t : ℕ) → is_task sc t ≡ true → is_at_rest sc (phases_in m.past) t (tasked m t) ≡ true) → phases_in m.past < length sc.phases → phase_event sc m ≡ Some (noted m entries.Phase)
 unfolding phase_event
 ends_phase sc m h l =
-    let a : ready sc m (numbers (length sc.flags)) ≡ [] = ready_none sc m (numbers (length sc.flags)) (all_numbers (λ t. next_kind sc m t ≡ None) (length sc.flags) (λ t p q. h t (number_of_task sc t p q))) in
+    let a : all_at_rest sc m ≡ true = all_true (λ t. is_at_rest sc (phases_in m.past) t (tasked m t)) (numbers (length sc.flags)) (all_numbers (λ t. is_at_rest sc (phases_in m.past) t (tasked m t) ≡ true) (length sc.flags) (λ t p q. h t (number_of_task sc t p q))) in
     rw (a, below (phases_in m.past) (length sc.phases) l) refl
   where
     below : (a b : ℕ) → a < b → nat_lt a b ≡ true
@@ -134,7 +155,7 @@ phase_follows p h over added room = record {
   scenario = refl;
   event = λ m s.
       let a : p.phase ≡ phases_in m.past = s.1.phase in
-      let e : phase_event p.scenario m ≡ Some (noted m entries.Phase) = ends_phase p.scenario m (λ t task. quiet_rests p t m task (over.quiet t task) s) (subst (λ n. n < length p.scenario.phases) a over.left) in
+      let e : phase_event p.scenario m ≡ Some (noted m entries.Phase) = ends_phase p.scenario m (λ t task. at_rest p t m task (over.quiet t task) s) (subst (λ n. n < length p.scenario.phases) a over.left) in
       (noted m entries.Phase, e, (s.0, ended_stands p.scenario (plain_of p) h m s.1 over.left added room e));
 }
 
@@ -159,10 +180,10 @@ none_there c sc m t (Some f) (Some g) e h = absurd (cc)
 pub rests_quiet : (p : Parts) (t : ℕ) → is_task p.scenario t ≡ true → Reached p → IsNext p t None → IsQuiet p t
 unfolding IsEnd IsNext IsState
 rests_quiet p t e r next =
-    let rest : Rests p.scenario r.1 t = task_rests p.scenario r.1 t ((reached_stands p.scenario r.0 r.1 r.2).tasks t e) (ap is_some (next r.1 r.3)) in
+    let rest : Rests p.scenario r.1 t = task_rests p.scenario r.1 t (none_next_rests p.scenario r.1 t (reached_stands p.scenario r.0 r.1 r.2) e (ap is_some (next r.1 r.3))) in
     let n = in_parts p.scenario _ (plain_of p) r.1 t r.3.1 e in
     let own : IsTask (plain_of p) (current p.scenario r.1 t) (part_of (plain_of p) t) (tasked r.1 t) = r.3.1.shape.tasks t n.0 n.1 in
-    let twin : part_of (plain_of p) t ≡ _ = part_is p.spaces p.frames (t - 1) n.1 in
+    let twin : part_of (plain_of p) t ≡ _ = part_at p.spaces p.frames t n.1 in
     record {
       frame = sym (ap (λ (x : Part). x.frame) twin) ∙ none_there (plain_of p) p.scenario r.1 t (part_of (plain_of p) t).frame (tasked r.1 t).frame rest.frame own.frame;
       begun =

@@ -13,7 +13,8 @@ use Rattle.vch_value.specs.Picture as picture
 use Rattle.vch_value.specs.Picture.{Picture, Claimed, with_claims, flags_at, is_met, takes_again, again}
 use Rattle.vch_model.specs.declared.lists.Scenario.{Scenario}
 use Rattle.vch_machine.specs.State as machine
-use Rattle.vch_machine.specs.State.{of_key, Handles, Place, same_place, Machine, Tasked, tasked, is_held, is_expected}
+use Rattle.vch_base.specs.Keyed.{of_key}
+use Rattle.vch_machine.specs.State.{Handles, Place, same_place, Machine, Tasked, tasked, is_held, is_expected}
 use Rattle.vch_machine.specs.Frames as frames
 use Rattle.vch_machine.specs.Leaving as leaving
 use Rattle.vch_machine.specs.Leaving.{do_recheck}
@@ -31,9 +32,10 @@ use Rattle.vch_state.specs.Moves.{with_values, with_frame_at, claiming}
 use Rattle.vch_state.proofs.Held.{held_counted}
 use Rattle.vch_state.proofs.Expected.{expected_met}
 use Rattle.vch_state.proofs.Replaced.{claims_before, claims_behind, shape_then, framed}
-use Rattle.vch_state.proofs.Closing.{closed_frames, holds_closed, receipts_closed, claimed_closed, rank_closed, makes_closed, open_closed, flying_closed}
+use Rattle.vch_state.proofs.Closing.{Formless, formless, closed_frames, holds_closed, receipts_closed, claimed_closed, rank_closed, makes_closed, open_closed, flying_closed}
 use Rattle.vch_state.proofs.Spending.{spent_then, unanswered_then, begun_then, open_then, work_same, makes_same}
-use Rattle.vch_state.proofs.Keys.{of_with, same_key_refl}
+use Rattle.vch_state.proofs.Keys.{of_with}
+use Rattle.vch_state.proofs.KeyCases.{same_key_refl}
 use Rattle.vch_state.proofs.LetsGo.{leaving_frame, leaving_machine}
 use Rattle.vch_state.proofs.OneClaim as one
 
@@ -115,7 +117,10 @@ module _ (sc : Scenario) (k : Key) (c : Plain) (m : Machine) (t : ℕ) (positive
       claim_related (Some z) i = (refl, i z refl, refl)
 
       new_frame : IsFrame then_parts (current sc m t) F2 G2
-      new_frame = record { forming = steady.frame.forming; at_byte = steady.frame.at_byte; keys_ = steady.frame.keys_; receipt = steady.frame.receipt; lets = steady.frame.lets; claim = claim_related o same_index; forms = steady.frame.forms; takes = steady.frame.takes }
+      new_frame = record { forming = steady.frame.forming; at_byte = steady.frame.at_byte; answered = steady.frame.answered; keys_ = steady.frame.keys_; receipt = steady.frame.receipt; lets = steady.frame.lets; claim = claim_related o same_index; forms = steady.frame.forms; takes = steady.frame.takes }
+
+      no_forming : Formless G2
+      no_forming = formless then_parts (current sc m t) F2 G2 new_frame
 
       shape_after : Shape sc then_parts then_machine
       shape_after = shape_then sc c m t positive inside s.shape then_parts then_machine (closed F2) (frames.closed G2) refl refl refl steady.others
@@ -128,7 +133,7 @@ module _ (sc : Scenario) (k : Key) (c : Plain) (m : Machine) (t : ℕ) (positive
       picture_after : picture_of k then_parts then_machine ≡ with_claims P (claims_before k c m t ++ again h o P.receipts (claims_behind k c m t))
       picture_after =
           one.picture_after sc k c m t positive inside v at key ls w place keys rest (Claiming.Answered k x) y own task refl s then_parts then_machine (closed F2) (frames.closed G2) (claiming k o) (told_claim o)
-          refl refl steady.cells (holds_closed k G2) (receipts_closed k F2) (claimed_closed then_parts (current sc m t) k F2 G2 new_frame)
+          refl refl steady.cells (holds_closed k G2 no_forming) (receipts_closed k F2) (claimed_closed then_parts (current sc m t) k F2 G2 new_frame)
           ∙ ap (λ cs. with_claims P (claims_before k c m t ++ cs)) (again_is o)
 
       abbrev now : KeyParts
@@ -148,7 +153,7 @@ module _ (sc : Scenario) (k : Key) (c : Plain) (m : Machine) (t : ℕ) (positive
           omega (arith, a, b, f)
 
       opens : open_of (frames.closed G2) ≡ open_of (tasked m t).frame
-      opens = open_closed G2 ∙ sym (ap open_of task)
+      opens = open_closed G2 no_forming ∙ sym (ap open_of task)
 
       pub stands_after : ((i : ℕ) → made_of (entry_at e2.slots i) ≤ m.tally.refers) → Fits sc then_machine → StandsFor sc (k ∷ []) then_parts then_machine
       stands_after lower fits = record {
@@ -173,10 +178,10 @@ module _ (sc : Scenario) (k : Key) (c : Plain) (m : Machine) (t : ℕ) (positive
         slots = rw (open_then m then_machine t (frames.closed G2) positive inside_tasks refl opens, begun_then m then_machine t (frames.closed G2) positive inside_tasks refl) s.slots;
         spent = spent_then sc m then_machine t (frames.closed G2) positive inside_tasks refl (record {
           done =
-              subst (λ a. (m.tally.claims + m.tally.refers) + a ≤ (m.tally.claims + m.tally.refers) + rank (current sc m t) (tasked m t).frame) (sym (rank_closed (current sc m t) G2))
+              subst (λ a. (m.tally.claims + m.tally.refers) + a ≤ (m.tally.claims + m.tally.refers) + rank (current sc m t) (tasked m t).frame) (sym (rank_closed (current sc m t) G2 no_forming))
               (subst (λ u. (m.tally.claims + m.tally.refers) + rank (current sc m t) (Some G2) ≤ (m.tally.claims + m.tally.refers) + rank (current sc m t) u) (sym task) (more (m.tally.claims + m.tally.refers) _ _ less_work));
           refers = refl;
-          makes = makes_closed (current sc m t) G2 ∙ makes_same (current sc m t) G2 (G (Some y)) w refl refl ∙ sym (ap (makes (current sc m t)) task);
+          makes = makes_closed (current sc m t) G2 no_forming ∙ makes_same (current sc m t) G2 (G (Some y)) w refl refl ∙ sym (ap (makes (current sc m t)) task);
           opens = opens;
           flying = flying_closed G2 ∙ sym (ap flying_of task);
           past = omega arith;

@@ -1,8 +1,9 @@
 -- From what the call of Recheck promises to what the event does.
+use Rattle.vch_state.proofs.Numbered.{at_place as item_at}
+use Rattle.vch_base.specs.Tasks.{at_task, set_task}
 use Rattle.std.proofs.Common.{◌≡◌, ◌≢◌, ℕ, ◌+◌, ◌-◌, ◌<◌, ◌≤◌, ◌==◌, nat_lt, ◌||◌, not, Bool, true, false, cond, List, [], ◌∷◌, ◌++◌, refl, arith, sym, ap, ◌∙◌, length, get_or, subst, Option, Some, None, inl, inr, IsTrue}
 use Rattle.std.specs.Prelude.{is_some, IsSome, IfSome}
 use Rattle.std.specs.List.{list_any, flat_map}
-use Rattle.std.proofs.Math.ListN.{set}
 use Rattle.std.proofs.lemmas.Bool.{cases_eq}
 use Rattle.std.proofs.lemmas.List.Sums.{sum_by-append, sum_by-cons}
 use Rattle.vch_base.specs.declared.key.Key.{Key}
@@ -19,17 +20,15 @@ use Rattle.vch_value.specs.Flight.{Asked}
 use Rattle.vch_value.specs.Picture as picture
 use Rattle.vch_value.specs.Picture.{Picture, Claimed, Meets, with_claims, claims_at, flags_at, entry_of, again, takes_again}
 use Rattle.vch_value.specs.Calls.{IsAnswered, Rechecks, claim_again}
-use Rattle.vch_value.proofs.Entry.{entry_is}
-use Rattle.vch_value.proofs.Lists.{test_same}
+use Rattle.vch_value.proofs.CallerLemmas.{entry_is, test_same}
 use Rattle.vch_model.specs.Lines.{is_task}
 use Rattle.vch_model.specs.declared.call.Call.{Call}
 use Rattle.vch_machine.specs.State as machine
-use Rattle.vch_machine.specs.State.{of_key, Place, Named, Message, Machine, Tasked, tasked, idle, same_place, task_holds, frame_claims, frame_holds, has_place, option_has, is_held, claims_on}
+use Rattle.vch_machine.specs.State.{Place, Named, Message, Machine, Tasked, tasked, idle, same_place, task_holds, frame_claims, frame_holds, has_place, option_has, is_held, claims_on}
 use Rattle.vch_machine.specs.Frames as frames
 use Rattle.vch_machine.specs.Next.{current, next_kind}
 use Rattle.vch_machine.specs.Events.{event}
-use Rattle.vch_legal.proofs.Keeps.{event_keeps}
-use Rattle.vch_legal.proofs.TaskLists.{before, behind, all_split}
+use Rattle.vch_legal.proofs.CallerLemmas.{event_keeps, before, behind, all_split}
 use Rattle.vch_state.specs.declared.frame.Frame.{Frame}
 use Rattle.vch_state.specs.declared.frame.Claiming.{Claiming}
 use Rattle.vch_state.specs.declared.frames.Working.{Working}
@@ -42,8 +41,8 @@ use Rattle.vch_state.specs.Bounds.{Limited}
 use Rattle.vch_state.specs.Stands.{StandsFor}
 use Rattle.vch_state.specs.Moves.{with_frame_at, claiming}
 use Rattle.vch_state.specs.Reached.{plain_of, parts_in, IsState, IsEvent, Follows, Reached, value_kind}
-use Rattle.vch_state.proofs.FrameParts.{frame_is, machine_frame_is}
-use Rattle.vch_state.proofs.Glue.{put_taken, own_frame, in_parts, in_frames, twin_of, is_user, there_of, entry_of_handle, from_reached, event_is, rechecks_next}
+use Rattle.vch_state.proofs.FrameParts.{frame_is, machine_frame_is, answered_is}
+use Rattle.vch_state.proofs.Glue.{task_number, put_taken, own_frame, in_parts, in_frames, twin_of, is_user, there_of, entry_of_handle, from_reached, event_is, rechecks_next}
 use Rattle.vch_state.proofs.Held.{held_counted}
 use Rattle.vch_state.proofs.Claims.{AreThose, claims_those}
 use Rattle.vch_state.proofs.Stable.{task_stays, frame_stays}
@@ -81,7 +80,7 @@ answering_of p call f key x g A r rec cl h = by g.claim refl (subst (λ z. IsCla
         let user : key ≡ keys.User = is_user p key x.index y.place.handle e.1 in
         h y user (record {
           own = frame_is f None f.lets (Claiming.Answered keys.User x) rec refl (cl ∙ ap (λ k. Claiming.Answered k x) user);
-          twin = machine_frame_is g None g.lets (Some (answered y.place.handle x.agreed y)) (no_receipt g.receipt (subst (λ o. Optional IsReceipt o g.receipt) rec r.receipt)) refl (q ∙ ap Some (claim_is y (sym e.0 ∙ user) e.2));
+          twin = machine_frame_is g (not (is_some g.forming)) None g.lets (Some (answered y.place.handle x.agreed y)) (answered_is (plain_of p) call f g r) (no_receipt g.receipt (subst (λ o. Optional IsReceipt o g.receipt) rec r.receipt)) refl (q ∙ ap Some (claim_is y (sym e.0 ∙ user) e.2));
           index = subst (λ k. IsIndexOf (plain_of p) k x.index y.place.handle) user e.1;
         })
 
@@ -226,7 +225,7 @@ module _ (p : Parts) (t : ℕ) (f : Frame) (key : Key) (x : Asked) (task : is_ta
         own = (let w : IsTask D (current p.scenario m t) (part_of (plain_of p) t) (tasked m t) = task_stays (plain_of p) D stable refl (current p.scenario m t) (part_of (plain_of p) t) (tasked m t) (s.shape.tasks t range.0 range.1) in
             record { names = w.names; next = w.next; queue = w.queue; begun = w.begun; frame = tt });
         frame = (let w = frame_stays (plain_of p) D stable refl (current p.scenario m t) _ _ old_frame in
-            record { forming = w.forming; at_byte = w.at_byte; keys_ = w.keys_; receipt = w.receipt; lets = w.lets; claim = tt; forms = w.forms; takes = w.takes });
+            record { forming = w.forming; at_byte = w.at_byte; answered = w.answered; keys_ = w.keys_; receipt = w.receipt; lets = w.lets; claim = tt; forms = w.forms; takes = w.takes });
         cells = cells_same (plain_of p) D keys.User (λ i. all_handles i keys.User) p.vouchers;
       }
         where
@@ -253,14 +252,14 @@ module _ (p : Parts) (t : ℕ) (f : Frame) (key : Key) (x : Asked) (task : is_ta
         own_claims : frame_claims (tasked m t).frame gone ≡ Y ∷ []
         own_claims = rw (twin_is, test_same h) refl
 
-        claims_split : claims_on m gone ≡ before (λ (a : Tasked). frame_claims a.frame gone) m.tasks (t - 1) ++ (Y ∷ behind (λ (a : Tasked). frame_claims a.frame gone) m.tasks (t - 1))
-        claims_split = all_split (λ (a : Tasked). frame_claims a.frame gone) m.tasks (t - 1) idle inside_tasks
-            ∙ ap (λ xs. before (λ (a : Tasked). frame_claims a.frame gone) m.tasks (t - 1) ++ (xs ++ behind (λ (a : Tasked). frame_claims a.frame gone) m.tasks (t - 1))) own_claims
+        claims_split : claims_on m gone ≡ before (λ (a : Tasked). frame_claims a.frame gone) m.tasks t ++ (Y ∷ behind (λ (a : Tasked). frame_claims a.frame gone) m.tasks t)
+        claims_split = all_split (λ (a : Tasked). frame_claims a.frame gone) m.tasks t idle (range.0, omega (arith, inside_tasks, range.0))
+            ∙ ap (λ xs. before (λ (a : Tasked). frame_claims a.frame gone) m.tasks t ++ (xs ++ behind (λ (a : Tasked). frame_claims a.frame gone) m.tasks t)) own_claims
 
-        no_claim : (u : ℕ) → u - 1 ≢ t - 1 → frame_claims (tasked m u).frame gone ≡ []
-        no_claim u n = lone_those keys.User h (claims_at h (picture_of keys.User (plain_of p) m).claims) (claimed x.sync Y) (claims_on m gone) _
+        no_claim : (u : ℕ) → u - 1 ≢ t - 1 → 0 < u → frame_claims (tasked m u).frame gone ≡ []
+        no_claim u n q = lone_those keys.User h (claims_at h (picture_of keys.User (plain_of p) m).claims) (claimed x.sync Y) (claims_on m gone) _
             (ap (λ (q : Picture). claims_at h q.claims) is_now ∙ alone) (claims_those keys.User h p.scenario (plain_of p) m s.shape)
-            (λ v r. let b = lone _ _ Y v (sym claims_split ∙ r) in others_empty (λ (a : Tasked). frame_claims a.frame gone) idle refl m.tasks (t - 1) (u - 1) b.0 b.1 n)
+            (λ v r. let b = lone _ _ Y v (sym claims_split ∙ r) in others_empty (λ (a : Tasked). frame_claims a.frame gone) idle refl m.tasks t u b.0 b.1 (λ e. n (ap (λ i. i - 1) e)))
 
         other_index : (i j : ℕ) → same_place (record { key = keys.User; handle = j }) gone ≡ false → handle_at p.user_entries.slots i ≡ Some j → i ≢ x.index
         other_index i j n r = λ q. differ (sym r ∙ ap (handle_at p.user_entries.slots) q ∙ z.index)
@@ -274,7 +273,7 @@ module _ (p : Parts) (t : ℕ) (f : Frame) (key : Key) (x : Asked) (task : is_ta
 
         own_free : (task_holds gone (framed (tasked m t) None) ≡ false) × (frame_holds (Some (leaving_machine g.forming g.at_byte g.keys g.lets None)) gone ≡ false)
         own_free =
-            let w : task_holds gone (tasked m t) ≡ false = no_holder (t - 1) in
+            let w : task_holds gone (tasked m t) ≡ false = ap (task_holds gone) (item_at m.tasks t idle range.0) ∙ no_holder (t - 1) in
             let a = either_false (list_any (λ (n : Named). has_place n.voucher gone) (tasked m t).names) (list_any (λ (q : Message). option_has q.voucher gone) (tasked m t).queue || frame_holds (tasked m t).frame gone) w in
             let b = either_false (list_any (λ (q : Message). option_has q.voucher gone) (tasked m t).queue) (frame_holds (tasked m t).frame gone) a.1 in
             (rw (a.0, b.0) refl, sym (ap (λ v. frame_holds v gone) twin_is) ∙ b.1)
@@ -287,11 +286,11 @@ module _ (p : Parts) (t : ℕ) (f : Frame) (key : Key) (x : Asked) (task : is_ta
 
         steady_gone : Same
         steady_gone = record {
-          others = λ u n q i. task_unused (plain_of p) D gone stable refl (current p.scenario m u) (part_of (plain_of p) u) (tasked m u) (no_holder (u - 1)) (no_claim u n) (s.shape.tasks u q i);
+          others = λ u n q i. task_unused (plain_of p) D gone stable refl (current p.scenario m u) (part_of (plain_of p) u) (tasked m u) (ap (task_holds gone) (item_at m.tasks u idle q) ∙ no_holder (u - 1)) (no_claim u n q) (s.shape.tasks u q i);
           own = task_unused (plain_of p) D gone stable refl (current p.scenario m t) (with_frame (part_of (plain_of p) t) None) (framed (tasked m t) None) own_free.0 refl
               (let w = s.shape.tasks t range.0 range.1 in record { names = w.names; next = w.next; queue = w.queue; begun = w.begun; frame = tt });
           frame = frame_unused (plain_of p) D gone stable refl (current p.scenario m t) _ _ own_free.1 refl
-              (record { forming = old_frame.forming; at_byte = old_frame.at_byte; keys_ = old_frame.keys_; receipt = old_frame.receipt; lets = old_frame.lets; claim = tt; forms = old_frame.forms; takes = old_frame.takes });
+              (record { forming = old_frame.forming; at_byte = old_frame.at_byte; answered = old_frame.answered; keys_ = old_frame.keys_; receipt = old_frame.receipt; lets = old_frame.lets; claim = tt; forms = old_frame.forms; takes = old_frame.takes });
           cells = cells_stay (plain_of p) D keys.User h (λ i n. writes i (λ q. n (ap (handle_at p.user_entries.slots) q ∙ z.index))) p.vouchers no_cells;
         }
 
@@ -356,8 +355,8 @@ module _ (p : Parts) (t : ℕ) (f : Frame) (key : Key) (x : Asked) (task : is_ta
           frame_then = rw (told, user) refl
 
           tasks_then : parts_in p.spaces frames2 ≡ D.tasks
-          tasks_then = ap (parts_in p.spaces) put ∙ put_taken p.spaces p.frames t (closed (record f { claim = claiming key o })) (in_frames p m t s task)
-              ∙ ap (λ u. set (parts_in p.spaces p.frames) (t - 1) (with_frame (get_or (parts_in p.spaces p.frames) (t - 1) idle_part) (closed u))) frame_then
+          tasks_then = ap (parts_in p.spaces) put ∙ put_taken p.spaces p.frames t (closed (record f { claim = claiming key o })) (task_number p.scenario t task).0 (in_frames p m t s task)
+              ∙ ap (λ u. set_task (parts_in p.spaces p.frames) t (with_frame (at_task (parts_in p.spaces p.frames) t idle_part) (closed u))) frame_then
 
           stands_then : StandsFor p.scenario (keys.User ∷ []) (plain_of new_parts) Next
           stands_then = subst (λ ts. StandsFor p.scenario (keys.User ∷ []) (record (plain_of new_parts) { tasks = ts }) Next) (sym tasks_then) next_stands

@@ -4,7 +4,7 @@ use Rattle.vch_base.specs.declared.key.Key.{Key}
 use Rattle.vch_recipe.specs.Recipes.{One, first_of}
 use Rattle.vch_recipe.specs.declared.recipe.Recipe.{Recipe}
 use Rattle.vch_machine.specs.State.{is_empty}
-pub use Rattle.vch_legal.proofs.RecordPlaces.{record_place, record_long, record_inside, asks_behind}
+pub use Rattle.vch_legal.proofs.CallerLemmas.{record_place, record_long, record_inside, asks_behind}
 
 -- what such a create had left is more by twelve steps and one reference
 pub work_paid : (bytes : List ℕ) (at : ℕ) (keys : List Key) (r : Recipe) (rest : List ℕ) → first_of (drop at bytes) ≡ One r rest

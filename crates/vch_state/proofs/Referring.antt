@@ -4,7 +4,7 @@ use Rattle.std.proofs.lemmas.Bool.{cases_eq}
 use Rattle.vch_base.specs.Managers.{count}
 use Rattle.vch_entry.specs.declared.table.Entry.{Entry}
 use Rattle.vch_entry.specs.Entries.{Entries, entry_at, handle_at, handle_of, made_of, Refers, refers, more}
-use Rattle.vch_value.proofs.Lists.{count_in, count_not, count_out, count_out_other}
+use Rattle.vch_value.proofs.CallerLemmas.{count_in, count_not, count_out, count_out_other}
 
 module _ (old new : Entries) (handle : ℕ) (persist : Bool) (index : ℕ) (call : Refers old handle persist index new) where
   -- the index has the handle

@@ -1,5 +1,5 @@
 -- Refer keeps all that the parts stand for.
-use Rattle.std.proofs.Common.{◌≡◌, ℕ, ◌+◌, ◌-◌, ◌<◌, ◌≤◌, List, [], ◌∷◌, ◌++◌, refl, arith, sym, ap, ◌∙◌, length, map, drop, subst, Option, Some, None}
+use Rattle.std.proofs.Common.{◌≡◌, ℕ, ◌+◌, ◌-◌, ◌<◌, ◌≤◌, List, [], ◌∷◌, ◌++◌, refl, arith, sym, ap, ◌∙◌, length, map, drop, subst, Option, Some, None, false}
 use Rattle.std.specs.List.{flat_map}
 use Rattle.vch_base.specs.declared.key.Key.{Key}
 use Rattle.vch_base.specs.Keys.{number_of}
@@ -11,17 +11,18 @@ use Rattle.vch_table.specs.Indices.{Bounded, SetsIndex}
 use Rattle.vch_value.specs.Flight.{Receipt}
 use Rattle.vch_value.specs.Picture as picture
 use Rattle.vch_value.specs.Picture.{Picture, Claimed, Alike, bring, claims_at, flags_at, referred_picture}
-use Rattle.vch_value.proofs.Rows.{stands_alike}
+use Rattle.vch_value.proofs.CallerLemmas.{stands_alike}
 use Rattle.vch_model.specs.declared.call.Call.TheVariants as calls
 use Rattle.vch_model.specs.declared.lists.Scenario.{Scenario}
 use Rattle.vch_machine.specs.State as machine
-use Rattle.vch_machine.specs.State.{of_key, with_key, Handles, Place, Machine, Tasked, tasked, is_empty}
+use Rattle.vch_base.specs.Keyed.{of_key, with_key}
+use Rattle.vch_machine.specs.State.{Handles, Place, Machine, Tasked, tasked, is_empty}
 use Rattle.vch_machine.specs.Frames as frames
 use Rattle.vch_machine.specs.Making.{back_claim, on_claims, one_refer}
 use Rattle.vch_machine.specs.Naming.{item}
 use Rattle.vch_machine.specs.Next.{current, nth_call}
 use Rattle.vch_legal.specs.Facts.{Fits}
-use Rattle.vch_legal.proofs.SeenTasks.{claims_task}
+use Rattle.vch_legal.proofs.CallerLemmas.{claims_task}
 use Rattle.vch_state.specs.declared.frame.Frame.{Frame}
 use Rattle.vch_state.specs.declared.frame.Claiming.{Claiming}
 use Rattle.vch_state.specs.Plain.{Plain, KeyParts, part_of, with_frame}
@@ -36,7 +37,8 @@ use Rattle.vch_state.proofs.Known.{cells_kept}
 use Rattle.vch_state.proofs.OnClaims.{back_keeps, back_shows, shape_on, picture_on, spent_on, begun_on, opens_on, unanswered_on}
 use Rattle.vch_state.proofs.Replaced.{picture_by, held_before, held_behind, receipts_before, receipts_behind, picture_now, picture_then, shape_then, framed}
 use Rattle.vch_state.proofs.Spending.{Paid, paid_then, unanswered_then, begun_then, open_then}
-use Rattle.vch_state.proofs.Keys.{of_with, same_key_refl, each_key}
+use Rattle.vch_state.proofs.Keys.{of_with, each_key}
+use Rattle.vch_state.proofs.KeyCases.{same_key_refl}
 use Rattle.vch_state.proofs.FrameParts.{frames_of}
 use Rattle.vch_state.proofs.Records.{asks_behind, work_paid, makes_paid}
 use Rattle.vch_state.proofs.Referring.{refers_here, refers_keep, refers_made, count_moved}
@@ -46,14 +48,14 @@ abbrev pub taking_frame : Key → Indices → ℕ → ℕ → Receipt → Frame
 taking_frame k v at key receipt = record { forming = Some v; at = at; key = key; receipt = Some (record { key = k; receipt = receipt }); lets = []; claim = Claiming.Nothing }
 
 abbrev pub taking_machine : Key → Handles → ℕ → List Key → ℕ → machine.Frame
-taking_machine k w at keys h = record { forming = Some w; at_byte = at; keys = keys; receipt = Some (record { key = k; handle = h }); lets = []; claim = None }
+taking_machine k w at keys h = record { forming = Some w; answered = false; at_byte = at; keys = keys; receipt = Some (record { key = k; handle = h }); lets = []; claim = None }
 
 -- and the frame once it was taken: it is at the next record
 abbrev pub taken_frame : Key → Indices → Indices → ℕ → Frame
 taken_frame k v u at = record { forming = Some u; at = at; key = 0; receipt = None; lets = let_at k (index_of k v); claim = Claiming.Nothing }
 
 abbrev pub taken_machine : Key → Handles → ℕ → ℕ → machine.Frame
-taken_machine k w at h = record { forming = Some (with_key k (Some h) w); at_byte = at; keys = []; receipt = None; lets = item k (of_key k w); claim = None }
+taken_machine k w at h = record { forming = Some (with_key k (Some h) w); answered = false; at_byte = at; keys = []; receipt = None; lets = item k (of_key k w); claim = None }
 
 module _ (sc : Scenario) (k : Key) (c : Plain) (m : Machine) (t : ℕ) (positive : 0 < t) (inside : t - 1 < length c.tasks)
     (bytes : List ℕ) (r : Recipe) (left : List ℕ) (v : Indices) (at key : ℕ) (receipt : Receipt) (w : Handles) (keys : List Key)
@@ -98,10 +100,10 @@ module _ (sc : Scenario) (k : Key) (c : Plain) (m : Machine) (t : ℕ) (positive
 
   -- the receipt stands here
   pub split : P.receipts ≡ receipts_before k c m t ++ receipt ∷ receipts_behind k c m t
-  split = ap (λ (q : Picture). q.receipts) (picture_now k c m t s.shape.long inside) ∙ rw (own, same_key_refl k) refl
+  split = ap (λ (q : Picture). q.receipts) (picture_now k c m t positive s.shape.long inside) ∙ rw (own, same_key_refl k) refl
 
   mid_is : picture_by k c mid t (Some F) (Some G) ≡ record P { claims = map (bring h) P.claims }
-  mid_is = sym (picture_now k c mid t shape_mid.long inside ∙ rw (own, task_mid) refl) ∙ picture_on back (back_keeps _) k (bring h) (back_shows k h) c m
+  mid_is = sym (picture_now k c mid t positive shape_mid.long inside ∙ rw (own, task_mid) refl) ∙ picture_on back (back_keeps _) k (bring h) (back_shows k h) c m
 
   module _ (e2 : Entries) (index : ℕ) (u : Indices)
       (refers : Refers (of_key k c.keyed).entries h receipt.persist index e2)
@@ -149,6 +151,7 @@ module _ (sc : Scenario) (k : Key) (c : Plain) (m : Machine) (t : ℕ) (positive
     new_frame = record {
       forming = map_with then_parts k v u w (Some index) (Some h) bounded sets index_now (map_stays c then_parts stable refl v w old_frame.forming);
       at_byte = refl;
+      answered = refl;
       keys_ = refl;
       receipt = tt;
       lets = lets_now;
@@ -171,7 +174,7 @@ module _ (sc : Scenario) (k : Key) (c : Plain) (m : Machine) (t : ℕ) (positive
     Q = picture_by k c mid t (Some F2) (Some G2)
 
     picture_after : picture_of k then_parts then_machine ≡ Q
-    picture_after = picture_then k c mid t shape_mid.long inside then_parts then_machine (Some F2) (Some G2) refl refl (cells_kept sc c then_parts m k s.shape (stable k))
+    picture_after = picture_then k c mid t positive shape_mid.long inside then_parts then_machine (Some F2) (Some G2) refl refl (cells_kept sc c then_parts m k s.shape (stable k))
 
     holders_moved : (x : ℕ) (o : Option ℕ) (before behind : List ℕ)
         → count x (before ++ ((h ∷ flat_map (let_holds k) (item k o)) ++ behind)) ≡ count x (h ∷ before ++ ((listed o ++ []) ++ behind))

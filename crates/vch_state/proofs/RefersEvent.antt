@@ -1,7 +1,10 @@
 -- From what the calls of Refer promise to what the event does.
-use Rattle.std.proofs.Common.{◌≡◌, ℕ, zero, suc, ◌+◌, ◌-◌, ◌<◌, ◌≤◌, Bool, true, false, List, [], ◌∷◌, ◌++◌, refl, arith, sym, ap, ◌∙◌, length, drop, get_or, subst, Option, Some, None}
+use Rattle.vch_state.proofs.FrameParts.{answered_is}
+use Rattle.vch_base.specs.Keys.{number_of}
+use Rattle.vch_table.specs.Indices.{index_at}
+use Rattle.vch_base.specs.Tasks.{at_task, set_task}
+use Rattle.std.proofs.Common.{◌≡◌, ℕ, zero, suc, ◌+◌, ◌-◌, ◌<◌, ◌≤◌, Bool, true, false, List, [], ◌∷◌, ◌++◌, refl, arith, sym, ap, ◌∙◌, length, drop, get_or, subst, Option, Some, None, not}
 use Rattle.std.specs.Prelude.{is_some, IfSome, ◌^◌}
-use Rattle.std.proofs.Math.ListN.{set}
 use Rattle.vch_base.specs.declared.key.Key.TheVariants as keys
 use Rattle.vch_base.specs.declared.kind.Kind.TheVariants as kinds
 use Rattle.vch_base.specs.Managers.{Kept, count}
@@ -11,7 +14,7 @@ use Rattle.vch_recipe.specs.declared.recipe.Recipe.{Recipe}
 use Rattle.vch_value.specs.Flight.{Receipt}
 use Rattle.vch_value.specs.Picture as picture
 use Rattle.vch_value.specs.Picture.{Picture, entry_of, referred_picture}
-use Rattle.vch_value.proofs.Entry.{entry_is}
+use Rattle.vch_value.proofs.CallerLemmas.{entry_is}
 use Rattle.vch_model.specs.Lines.{is_task}
 use Rattle.vch_model.specs.declared.call.Call.{Call}
 use Rattle.vch_model.specs.declared.call.Call.TheVariants as calls
@@ -22,7 +25,7 @@ use Rattle.vch_machine.specs.Next.{current, next_kind, nth_call}
 use Rattle.vch_machine.specs.Working.{bytes_of, size_of}
 use Rattle.vch_machine.specs.Events.{event, event_of}
 use Rattle.vch_legal.specs.Facts.{FrameFits, OptionFits}
-use Rattle.vch_legal.proofs.Keeps.{event_keeps}
+use Rattle.vch_legal.proofs.CallerLemmas.{event_keeps}
 use Rattle.vch_state.specs.declared.frame.Frame.{Frame}
 use Rattle.vch_state.specs.declared.frame.Claiming.{Claiming}
 use Rattle.vch_state.specs.declared.frame.KeyIndex.{KeyIndex}
@@ -39,10 +42,10 @@ use Rattle.vch_state.specs.Stands.{StandsFor}
 use Rattle.vch_state.specs.Moves.{PutsIndex, let_at, one_referred}
 use Rattle.vch_state.specs.Reached.{plain_of, parts_in, IsState, IsEvent, Follows, Reached}
 use Rattle.vch_state.proofs.Replaced.{receipts_before, receipts_behind}
-use Rattle.vch_state.proofs.Glue.{put_taken, own_frame, in_parts, in_frames, twin_of, entry_of_handle, from_reached, event_is}
+use Rattle.vch_state.proofs.Glue.{task_number, put_taken, own_frame, in_parts, in_frames, twin_of, entry_of_handle, from_reached, event_is}
 use Rattle.vch_state.proofs.Spending.{refers_bound}
 use Rattle.vch_state.proofs.Holders.{holders_few}
-use Rattle.vch_state.proofs.Maps.{keyed_few}
+use Rattle.vch_state.proofs.Maps.{room_for}
 use Rattle.vch_state.proofs.Records.{record_inside}
 use Rattle.vch_state.proofs.Refers.{taking_frame, taking_machine, taken_frame, split, then_parts, then_machine, stands_after}
 
@@ -54,10 +57,14 @@ parts_begun (s ∷ ss) [] i l = absurd (omega arith)
 parts_begun (s ∷ ss) (x ∷ fs) zero l = refl
 parts_begun (s ∷ ss) (x ∷ fs) (suc i) l = parts_begun ss fs i (omega arith)
 
+begun_at : (ss : List Names) (fs : List Working) (t : ℕ) → t - 1 < length (parts_in ss fs) → (at_task (parts_in ss fs) t idle_part).begun ≡ begun_of fs t
+begun_at ss fs zero l = refl
+begun_at ss fs (suc i) l = parts_begun ss fs i (omega (arith, l))
+
 pub own_begun : (p : Parts) (m : Machine) (t : ℕ) → StandsFor p.scenario (keys.User ∷ []) (plain_of p) m → is_task p.scenario t ≡ true → begun_of p.frames t ≡ (tasked m t).begun
 own_begun p m t s e =
     let n = in_parts p.scenario (keys.User ∷ []) (plain_of p) m t s e in
-    sym (parts_begun p.spaces p.frames (t - 1) (in_frames p m t s e)) ∙ (s.shape.tasks t n.0 n.1).begun
+    sym (begun_at p.spaces p.frames t (in_frames p m t s e)) ∙ (s.shape.tasks t n.0 n.1).begun
 
 -- the call that is under way
 pub own_call : (p : Parts) (m : Machine) (t : ℕ) → StandsFor p.scenario (keys.User ∷ []) (plain_of p) m → is_task p.scenario t ≡ true → nth_call p.scenario t (begun_of p.frames t) ≡ current p.scenario m t
@@ -82,11 +89,11 @@ frame_whole f v x k a b d e = let q : x ≡ record { key = keys.User; receipt = 
     whole : (f : Frame) (v : Option Indices) (x : Option KeyReceipt) (l : List KeyIndex) (z : Claiming) → f.forming ≡ v → f.receipt ≡ x → f.lets ≡ l → f.claim ≡ z → f ≡ record f { forming = v; receipt = x; lets = l; claim = z }
     whole f v x l z a b d e = rw (← a, ← b, ← d, ← e) refl
 
-machine_whole : (g : machine.Frame) (w : Handles) (at h : ℕ) (q : Place) → q.key ≡ keys.User → h ≡ q.handle → g.at_byte ≡ at → g.forming ≡ Some w → g.receipt ≡ Some q → g.lets ≡ [] → g.claim ≡ None → g ≡ taking_machine keys.User w at g.keys h
-machine_whole g w at h q k e n a b d z = let i : q ≡ record { key = keys.User; handle = h } = rw (← k, e) refl in whole g (Some w) at (Some (record { key = keys.User; handle = h })) [] None a n (b ∙ ap Some i) d z
+machine_whole : (g : machine.Frame) (w : Handles) (at h : ℕ) (q : Place) → q.key ≡ keys.User → h ≡ q.handle → g.at_byte ≡ at → g.forming ≡ Some w → g.receipt ≡ Some q → g.lets ≡ [] → g.claim ≡ None → g.answered ≡ false → g ≡ taking_machine keys.User w at g.keys h
+machine_whole g w at h q k e n a b d z m = let i : q ≡ record { key = keys.User; handle = h } = rw (← k, e) refl in whole g (Some w) false at (Some (record { key = keys.User; handle = h })) [] None a m n (b ∙ ap Some i) d z
   where
-    whole : (g : machine.Frame) (w : Option Handles) (at : ℕ) (q : Option Place) (l : List Place) (y : Option machine.Claim) → g.forming ≡ w → g.at_byte ≡ at → g.receipt ≡ q → g.lets ≡ l → g.claim ≡ y → g ≡ record g { forming = w; at_byte = at; receipt = q; lets = l; claim = y }
-    whole g w at q l y a n b d e = rw (← a, ← n, ← b, ← d, ← e) refl
+    whole : (g : machine.Frame) (w : Option Handles) (m : Bool) (at : ℕ) (q : Option Place) (l : List Place) (y : Option machine.Claim) → g.forming ≡ w → g.answered ≡ m → g.at_byte ≡ at → g.receipt ≡ q → g.lets ≡ l → g.claim ≡ y → g ≡ record g { forming = w; answered = m; at_byte = at; receipt = q; lets = l; claim = y }
+    whole g w m at q l y a h n b d e = rw (← a, ← h, ← n, ← b, ← d, ← e) refl
 
 no_lets : (c : Plain) (ls : List KeyIndex) (ps : List Place) → ps ≡ [] → Pairwise (IsLet c) ls ps → ls ≡ []
 no_lets c [] ps e z = refl
@@ -113,7 +120,7 @@ module _ (c : Plain) (call : Option Call) (f : Frame) (x : KeyReceipt) (g : mach
       record_of bytes f.at (first_of (drop f.at bytes)) refl z.1 A (λ r2 left first user. h bytes r2 left v w (record {
         key = z.0;
         own = frame_whole f v x z.0 a rec (no_lets c f.lets g.lets (fits.lets taken) r.lets) (no_claim c f.claim g.claim (fits.claim taken) r.claim);
-        twin = machine_whole g w f.at x.receipt.handle q (sym key ∙ z.0) handle (sym r.at_byte) b twin (fits.lets taken) (fits.claim taken);
+        twin = machine_whole g w f.at x.receipt.handle q (sym key ∙ z.0) handle (sym r.at_byte) b twin (fits.lets taken) (fits.claim taken) (answered_is c call f g r ∙ ap (λ o. not (is_some o)) b);
         call_is = e;
         first = first;
         user = user;
@@ -133,6 +140,7 @@ module _ (c : Plain) (call : Option Call) (f : Frame) (x : KeyReceipt) (g : mach
   by_place q twin key handle (Some calls.Ledger) e z v w a b map = absurd z
   by_place q twin key handle (Some calls.Assertions) e z v w a b map = absurd z
   by_place q twin key handle (Some calls.Live) e z v w a b map = absurd z
+  by_place q twin key handle (Some calls.Exit) e z v w a b map = absurd z
 
   taking_of : A
   taking_of = by_receipt g.receipt refl (subst (λ o. Optional IsReceipt o g.receipt) rec r.receipt)
@@ -182,12 +190,12 @@ module _ (p : Parts) (t : ℕ) (f : Frame) (x : KeyReceipt) (task : is_task p.sc
     below limited apart i at = entry_of_handle p.user_entries.slots i x.receipt.handle _ at (λ en q same.
         let found : entry_of p.user_entries.slots x.receipt.handle ≡ Some en = entry_is p.user_entries.slots i x.receipt.handle en apart q same in
         let refs : en.refs ≡ count x.receipt.handle P.holders = sym (ap refs_of found) ∙ (s.keyed.0.counts.at x.receipt.handle).refs in
-        let few : count x.receipt.handle P.holders ≤ 1049024 = holders_few p.scenario (keys.User ∷ []) (plain_of p) m keys.User x.receipt.handle limited s in
+        let few : count x.receipt.handle P.holders ≤ 1049152 = holders_few p.scenario (keys.User ∷ []) (plain_of p) m keys.User x.receipt.handle limited s in
         let made : en.made ≤ m.tally.refers = subst (λ o. made_of o ≤ m.tally.refers) q (s.keyed.0.made i) in
         let bound : m.tally.refers ≤ 1342177280 = refers_bound p.scenario m limited s.spent in
         subst (AreBelow (2 ^ 63)) (sym q) (small en.refs en.made (count x.receipt.handle P.holders) m.tally.refers refs few made bound))
       where
-        small : (a b n o : ℕ) → a ≡ n → n ≤ 1049024 → b ≤ o → o ≤ 1342177280 → (a < 2 ^ 63) × (b < 2 ^ 63)
+        small : (a b n o : ℕ) → a ≡ n → n ≤ 1049152 → b ≤ o → o ≤ 1342177280 → (a < 2 ^ 63) × (b < 2 ^ 63)
         small a b n o i j k l = (omega arith, omega arith)
 
     module _ (want : Bool) (limited : Limited p.scenario) (e2 : Entries) (index : ℕ) (f3 : Frame)
@@ -246,8 +254,8 @@ module _ (p : Parts) (t : ℕ) (f : Frame) (x : KeyReceipt) (task : is_task p.sc
             whole f f3 u n a b d e = rw (a, b, d, e) refl
 
         tasks_then : parts_in p.spaces frames2 ≡ NextParts.tasks
-        tasks_then = ap (parts_in p.spaces) put ∙ put_taken p.spaces p.frames t (Some (record f3 { at = place; key = 0 })) (in_frames p m t s task)
-            ∙ ap (λ y. set (parts_in p.spaces p.frames) (t - 1) (with_frame (get_or (parts_in p.spaces p.frames) (t - 1) idle_part) (Some y))) frame_then
+        tasks_then = ap (parts_in p.spaces) put ∙ put_taken p.spaces p.frames t (Some (record f3 { at = place; key = 0 })) (task_number p.scenario t task).0 (in_frames p m t s task)
+            ∙ ap (λ y. set_task (parts_in p.spaces p.frames) t (with_frame (at_task (parts_in p.spaces p.frames) t idle_part) (Some y))) frame_then
 
         stands_then : StandsFor p.scenario (keys.User ∷ []) (plain_of new_parts) Next
         stands_then = subst (λ ts. StandsFor p.scenario (keys.User ∷ []) (record (plain_of new_parts) { tasks = ts }) Next) (sym tasks_then)
@@ -267,8 +275,8 @@ module _ (p : Parts) (t : ℕ) (f : Frame) (x : KeyReceipt) (task : is_task p.sc
   pub refer_counts : Reached p → IsApart p.user_entries.slots → (i : ℕ) → handle_at p.user_entries.slots i ≡ Some x.receipt.handle → AreBelow (2 ^ 63) (entry_at p.user_entries.slots i)
   refer_counts reached apart = from_reached p _ reached (λ m limited s. seen m _ s (λ g bytes r left v w e z. below m s g bytes r left v w e z limited apart))
 
-  pub refer_keys : Reached p → IfSome f.forming (λ v. length v < 4)
-  refer_keys reached = from_reached p _ reached (λ m limited s. seen m _ s (λ g bytes r left v w e z. subst (λ o. IfSome o (λ v. length v < 4)) (sym (ap (λ (a : Frame). a.forming) z.own)) (keyed_few v z.map.1)))
+  pub refer_keys : Reached p → IfSome f.forming (λ v. index_at v (number_of x.key) ≡ None → length v < 4)
+  refer_keys reached = from_reached p _ reached (λ m limited s. seen m _ s (λ g bytes r left v w e z. subst (λ o. IfSome o (λ u. index_at u (number_of x.key) ≡ None → length u < 4)) (sym (ap (λ (a : Frame). a.forming) z.own)) (room_for v x.key z.map.1)))
 
   pub refer_lets : Reached p → length f.lets < 12
   refer_lets reached = from_reached p _ reached (λ m limited s. seen m _ s (λ g bytes r left v w e z. subst (λ ls. length ls < 12) (sym (ap (λ (a : Frame). a.lets) z.own)) (few tt)))

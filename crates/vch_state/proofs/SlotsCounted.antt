@@ -1,5 +1,5 @@
 -- How many vouchers names and messages have: the live slots of the table are the different vouchers of the store.
-use Rattle.std.proofs.Common.{◌≡◌, ℕ, suc, ◌+◌, ◌-◌, ◌<◌, ◌≤◌, ◌==◌, nat_lt, ◌||◌, Bool, true, false, cond, List, [], ◌∷◌, ◌++◌, refl, arith, sym, ap, ◌∙◌, subst, length, map, get_or, Option, Some, None}
+use Rattle.std.proofs.Common.{◌≡◌, ℕ, suc, ◌+◌, ◌<◌, ◌≤◌, ◌==◌, nat_lt, ◌||◌, Bool, true, false, cond, List, [], ◌∷◌, ◌++◌, refl, arith, sym, ap, ◌∙◌, subst, length, map, get_or, Option, Some, None}
 use Rattle.std.specs.Prelude.{is_some}
 use Rattle.std.specs.List.{list_any, flat_map, AllByRecursion}
 use Rattle.std.proofs.lemmas.Grind.{common_steps}
@@ -17,11 +17,11 @@ use Rattle.vch_model.specs.Replies.{all_vouchers, different, vouchers_of}
 use Rattle.vch_machine.specs.State.{Handles, Place, Living, Named, Message, Tasked, Machine, idle, living_at, valued, valued_option, named_of, message_of, member_of, seen, has_place, option_has, task_holds}
 use Rattle.vch_machine.specs.Naming.{same_handle, same_handles}
 use Rattle.vch_legal.specs.Facts.{bit, Different}
-use Rattle.vch_legal.proofs.HeldLive.{held_live, voucher_live}
-use Rattle.vch_legal.proofs.LeaveSpots.{or_left, or_right}
-use Rattle.vch_legal.proofs.PutSpots.{handles_eq}
-use Rattle.vch_legal.proofs.SeenHeld.{not_true}
-use Rattle.vch_legal.proofs.SeenNames.{LiveAll, same_vouchers}
+use Rattle.vch_legal.proofs.CallerLemmas.{held_live, voucher_live}
+use Rattle.vch_legal.proofs.CallerLemmas.{or_left, or_right}
+use Rattle.vch_legal.proofs.CallerLemmas.{handles_eq}
+use Rattle.vch_legal.proofs.CallerLemmas.{not_true}
+use Rattle.vch_legal.proofs.CallerLemmas.{LiveAll, same_vouchers}
 use Rattle.vch_state.specs.declared.parts.Parts.{Parts}
 use Rattle.vch_state.specs.Plain.{Plain, Part, SlotName, SlotMessage, idle_part}
 use Rattle.vch_state.specs.Shape.{Shape, IsTable, Pairwise, Optional, IsMap, HasMap, IsSlotOf, IsName, IsMessage, slots_of, is_slot, named_by, queued_by, referred_by}
@@ -187,7 +187,7 @@ module _ (c : Plain) (live : List Living) where
     same_one (Some a) = grind (arith, common_steps)
 
     same_self : (w : Handles) → same_handles w w ≡ true
-    same_self w = let a = same_one w.importance in let b = same_one w.bank in let d = same_one w.user in rw (a, b, d) refl
+    same_self w = let a = same_one w.importance in let b = same_one w.bank in let d = same_one w.user in let e = same_one w.test in rw (a, b, d, e) refl
 
     some_eq : (a b : Cell) → Some a ≡ Some b → a ≡ b
     some_eq a b e = cc
@@ -244,13 +244,12 @@ module _ (p : Parts) (apart : IsApart p.user_entries.slots) where
   apart_at keys.Importance i j h e f = absurd (none_there i h e)
   apart_at keys.Bank i j h e f = absurd (none_there i h e)
   apart_at keys.User i j h e f = apart i j h e f
+  apart_at keys.Test i j h e f = absurd (none_there i h e)
 
   module _ (m : Machine) (s : StandsFor p.scenario (keys.User ∷ []) (plain_of p) m) where
     at_place : (i : ℕ) → i < length (plain_of p).tasks → Keeps (plain_of p) m.live (get_or (plain_of p).tasks i idle_part) (get_or m.tasks i idle)
     at_place i l =
-        let e : suc i - 1 ≡ i = omega arith in
         let t = s.shape.tasks (suc i) (omega arith) (omega (arith, l)) in
-        subst (λ j. Keeps (plain_of p) m.live (get_or (plain_of p).tasks j idle_part) (get_or m.tasks j idle)) e
         (record { names = t.names; queue = t.queue; lives = λ q h. held_live p.scenario m (suc i) q s.fits h })
 
     keeps_all : (c : Plain) (xs : List Part) (ys : List Tasked) → length xs ≡ length ys → ((i : ℕ) → i < length xs → Keeps c m.live (get_or xs i idle_part) (get_or ys i idle)) → Pairwise (Keeps c m.live) xs ys

@@ -1,8 +1,8 @@
 -- What was done and what can still be done, where one task is replaced.
-use Rattle.std.proofs.Common.{◌≡◌, ℕ, ◌+◌, ◌-◌, ◌*◌, ◌<◌, ◌≤◌, refl, arith, sym, length, get_or, subst, Option, Some, None, inl, inr}
-use Rattle.std.proofs.Math.ListN.{set}
+use Rattle.vch_base.proofs.CallerLemmas.{own_item, other_items}
+use Rattle.vch_base.specs.Tasks.{at_task, set_task}
+use Rattle.std.proofs.Common.{◌≡◌, ℕ, ◌+◌, ◌-◌, ◌*◌, ◌<◌, ◌≤◌, refl, arith, sym, length, get_or, subst, Option, Some, None, inl, inr, suc}
 use Rattle.std.proofs.lemmas.Bool.{cases_eq}
-use Rattle.std.proofs.lemmas.List.{get_or-set_same, get_or-set_other}
 use Rattle.vch_model.specs.declared.lists.Scenario.{Scenario}
 use Rattle.vch_model.specs.declared.call.Call.{Call}
 use Rattle.vch_model.specs.declared.call.Call.TheVariants as calls
@@ -22,10 +22,7 @@ pub record Paid (sc : Scenario) (t : ℕ) (m n : Machine) (x y : Tasked) : Type 
   pub phases : phases_in n.past ≡ phases_in m.past
   pub task : TaskSpent sc t x → TaskSpent sc t y
 
-one_back : (t : ℕ) → 0 < t → (t - 1) + 1 ≡ t
-one_back t p = omega arith
-
-pub paid_then : (sc : Scenario) (m n : Machine) (t : ℕ) (y : Tasked) → 0 < t → t - 1 < length m.tasks → n.tasks ≡ set m.tasks (t - 1) y → Paid sc t m n (tasked m t) y → Spent sc m → Spent sc n
+pub paid_then : (sc : Scenario) (m n : Machine) (t : ℕ) (y : Tasked) → 0 < t → t - 1 < length m.tasks → n.tasks ≡ set_task m.tasks t y → Paid sc t m n (tasked m t) y → Spent sc m → Spent sc n
 paid_then sc m n t y positive inside tasks p s = record {
   done =
       let a : in_all (rank_in sc) n + rank_in sc t (tasked m t) ≡ in_all (rank_in sc) m + rank_in sc t y = sum_with (rank_in sc) m t n.tasks y positive inside tasks in
@@ -46,18 +43,12 @@ paid_then sc m n t y positive inside tasks p s = record {
       let d : in_all open_in n + open_of (tasked m t).frame ≡ in_all open_in m + open_of y.frame = sum_with open_in m t n.tasks y positive inside tasks in
       omega (arith, a, b, d, p.past, p.phases, s.past);
   phases = let a : phases_in n.past ≡ phases_in m.past = p.phases in omega (arith, a, s.phases);
-  tasks = λ i. subst (λ ts. TaskSpent sc (i + 1) (get_or ts i idle)) (sym tasks) (elim (cases_eq i (t - 1)) [
-    | inl e ↦ subst (λ v. TaskSpent sc (v + 1) (get_or (set m.tasks (t - 1) y) v idle)) (sym e) here
-    | inr q ↦ subst (TaskSpent sc (i + 1)) (sym (get_or-set_other m.tasks (t - 1) i y idle q)) (s.tasks i)
+  tasks = λ u. subst (λ ts. TaskSpent sc u (at_task ts u idle)) (sym tasks) (elim (cases_eq u t) [
+    | inl e ↦ subst (λ v. TaskSpent sc v (at_task (set_task m.tasks t y) v idle)) (sym e)
+        (subst (TaskSpent sc t) (sym (own_item m.tasks t y idle positive (omega (arith, inside)))) (p.task (s.tasks t)))
+    | inr q ↦ subst (TaskSpent sc u) (sym (other_items m.tasks t u y idle q)) (s.tasks u)
   ]);
 }
-  where
-    own : TaskSpent sc t (tasked m t)
-    own = subst (λ v. TaskSpent sc v (tasked m t)) (one_back t positive) (s.tasks (t - 1))
-
-    here : TaskSpent sc ((t - 1) + 1) (get_or (set m.tasks (t - 1) y) (t - 1) idle)
-    here = subst (λ v. TaskSpent sc v (get_or (set m.tasks (t - 1) y) (t - 1) idle)) (sym (one_back t positive))
-        (subst (TaskSpent sc t) (sym (get_or-set_same m.tasks (t - 1) y idle inside)) (p.task own))
 
 -- an event that replaces the frame of one task, whose call goes on as it was, and takes no reference
 pub record Stays (sc : Scenario) (t : ℕ) (m n : Machine) (f g : Option Frame) : Type 0 where
@@ -69,7 +60,7 @@ pub record Stays (sc : Scenario) (t : ℕ) (m n : Machine) (f g : Option Frame) 
   pub past : length n.past + m.tally.asks ≤ length m.past + n.tally.asks
   pub phases : phases_in n.past ≡ phases_in m.past
 
-pub spent_then : (sc : Scenario) (m n : Machine) (t : ℕ) (g : Option Frame) → 0 < t → t - 1 < length m.tasks → n.tasks ≡ set m.tasks (t - 1) (framed (tasked m t) g)
+pub spent_then : (sc : Scenario) (m n : Machine) (t : ℕ) (g : Option Frame) → 0 < t → t - 1 < length m.tasks → n.tasks ≡ set_task m.tasks t (framed (tasked m t) g)
     → Stays sc t m n (tasked m t).frame g → Spent sc m → Spent sc n
 spent_then sc m n t g positive inside tasks p = paid_then sc m n t (framed (tasked m t) g) positive inside tasks (record {
   done = let a = p.done in omega (arith, a);
@@ -81,7 +72,7 @@ spent_then sc m n t g positive inside tasks p = paid_then sc m n t (framed (task
 })
 
 -- the calls without an answer are the same then
-pub unanswered_then : (sc : Scenario) (m n : Machine) (t : ℕ) (g : Option Frame) → 0 < t → t - 1 < length m.tasks → n.tasks ≡ set m.tasks (t - 1) (framed (tasked m t) g)
+pub unanswered_then : (sc : Scenario) (m n : Machine) (t : ℕ) (g : Option Frame) → 0 < t → t - 1 < length m.tasks → n.tasks ≡ set_task m.tasks t (framed (tasked m t) g)
     → open_of g ≡ open_of (tasked m t).frame → in_all (unanswered_in sc) n ≡ in_all (unanswered_in sc) m
 unanswered_then sc m n t g positive inside tasks e =
     let a : in_all (unanswered_in sc) n + ((length (lines_of sc t) - (tasked m t).begun) + open_of (tasked m t).frame) ≡ in_all (unanswered_in sc) m + ((length (lines_of sc t) - (tasked m t).begun) + open_of g) =
@@ -89,12 +80,12 @@ unanswered_then sc m n t g positive inside tasks e =
     omega (arith, a, e)
 
 -- and so are the calls begun, and those that are open
-pub begun_then : (m n : Machine) (t : ℕ) (g : Option Frame) → 0 < t → t - 1 < length m.tasks → n.tasks ≡ set m.tasks (t - 1) (framed (tasked m t) g) → in_all begun_in n ≡ in_all begun_in m
+pub begun_then : (m n : Machine) (t : ℕ) (g : Option Frame) → 0 < t → t - 1 < length m.tasks → n.tasks ≡ set_task m.tasks t (framed (tasked m t) g) → in_all begun_in n ≡ in_all begun_in m
 begun_then m n t g positive inside tasks =
     let a : in_all begun_in n + (tasked m t).begun ≡ in_all begun_in m + (tasked m t).begun = sum_with begun_in m t n.tasks (framed (tasked m t) g) positive inside tasks in
     omega (arith, a)
 
-pub open_then : (m n : Machine) (t : ℕ) (g : Option Frame) → 0 < t → t - 1 < length m.tasks → n.tasks ≡ set m.tasks (t - 1) (framed (tasked m t) g)
+pub open_then : (m n : Machine) (t : ℕ) (g : Option Frame) → 0 < t → t - 1 < length m.tasks → n.tasks ≡ set_task m.tasks t (framed (tasked m t) g)
     → open_of g ≡ open_of (tasked m t).frame → in_all open_in n ≡ in_all open_in m
 open_then m n t g positive inside tasks e =
     let a : in_all open_in n + open_of (tasked m t).frame ≡ in_all open_in m + open_of g = sum_with open_in m t n.tasks (framed (tasked m t) g) positive inside tasks in
@@ -105,7 +96,7 @@ open_then m n t g positive inside tasks e =
 module _ (sc : Scenario) (m : Machine) (limited : Limited sc) (spent : Spent sc m) where
   pub begun_bound : in_all begun_in m ≤ 1048576
   begun_bound =
-      let a : in_all begun_in m ≤ calls_of sc = sum_bounded begun_in sc m.tasks (λ i l. let e : i + 1 ≡ 1 + i = omega arith in subst (λ u. (get_or m.tasks i idle).begun ≤ length (lines_of sc u)) e (spent.tasks i).begun) in
+      let a : in_all begun_in m ≤ calls_of sc = sum_bounded begun_in sc m.tasks (λ i l. let e : suc i ≡ 1 + i = omega arith in subst (λ u. (get_or m.tasks i idle).begun ≤ length (lines_of sc u)) e (spent.tasks (suc i)).begun) in
       omega (arith, a, limited.calls)
 
   -- claims, references and questions are few

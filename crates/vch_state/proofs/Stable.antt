@@ -3,8 +3,9 @@ use Rattle.std.proofs.Common.{◌≡◌, ℕ, List, [], ◌∷◌, Option, Some,
 use Rattle.vch_base.specs.declared.key.Key.{Key}
 use Rattle.vch_model.specs.declared.call.Call.{Call}
 use Rattle.vch_machine.specs.State as machine
-use Rattle.vch_machine.specs.State.{Handles, Place, Named, Message, Tasked, of_key}
-use Rattle.vch_machine.specs.Naming.{all_keys}
+use Rattle.vch_base.specs.Keyed.{of_key}
+use Rattle.vch_machine.specs.State.{Handles, Place, Named, Message, Tasked}
+use Rattle.vch_base.specs.Keys.{every_key}
 use Rattle.vch_base.specs.Slots.{slot_at}
 use Rattle.vch_table.specs.declared.table.Cell.{Cell}
 use Rattle.vch_state.specs.declared.frame.Frame.{Frame}
@@ -31,7 +32,7 @@ module _ (c d : Plain) (stable : (k : Key) (i h : ℕ) → IsIndexOf c k i h →
   indices_stay (k ∷ ks) v w p = (optional (IsIndexOf c k) (IsIndexOf d k) (stable k) (index_of k v) (of_key k w) p.0, indices_stay ks v w p.1)
 
   pub map_stays : (v : Indices) (w : Handles) → IsMap c v w → IsMap d v w
-  map_stays v w p = (indices_stay all_keys v w p.0, p.1)
+  map_stays v w p = (indices_stay every_key v w p.0, p.1)
 
   has_map : (o : Option Cell) (w : Handles) → HasMap c o w → HasMap d o w
   has_map None w p = absurd p
@@ -55,6 +56,7 @@ module _ (c d : Plain) (stable : (k : Key) (i h : ℕ) → IsIndexOf c k i h →
   frame_stays call f g p = record {
     forming = optional (IsMap c) (IsMap d) map_stays f.forming g.forming p.forming;
     at_byte = p.at_byte;
+    answered = p.answered;
     keys_ = p.keys_;
     forms = p.forms;
     takes = p.takes;

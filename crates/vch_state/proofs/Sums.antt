@@ -1,9 +1,11 @@
 -- Sums over the tasks: where one task is replaced, where all are changed alike, and where they are at most its lines.
-use Rattle.std.proofs.Common.{◌≡◌, ℕ, zero, suc, ◌+◌, ◌-◌, ◌<◌, ◌≤◌, List, [], ◌∷◌, refl, arith, sym, length, map, get_or, subst}
+use Rattle.vch_state.proofs.Numbered.{at_place, set_place}
+use Rattle.vch_base.specs.Tasks.{set_task}
+use Rattle.std.proofs.Common.{◌≡◌, ℕ, zero, suc, ◌+◌, ◌-◌, ◌<◌, ◌≤◌, List, [], ◌∷◌, refl, arith, sym, length, map, get_or, subst, ◌∙◌}
 use Rattle.std.proofs.Math.ListN.{set}
 use Rattle.vch_model.specs.declared.lists.Scenario.{Scenario}
 use Rattle.vch_model.specs.Lines.{lines_of}
-use Rattle.vch_legal.proofs.LineSums.{lines_of_tasks, all_of_tasks}
+use Rattle.vch_legal.proofs.CallerLemmas.{lines_of_tasks, all_of_tasks}
 use Rattle.vch_machine.specs.State.{Machine, Tasked, tasked, idle}
 use Rattle.vch_state.specs.Bounds.{sum_tasks, in_all, calls_of}
 
@@ -24,11 +26,12 @@ one_back : (t : ℕ) → 0 < t → 1 + (t - 1) ≡ t
 one_back t p = omega arith
 
 -- with another state of a task
-pub sum_with : (f : Measure) (m : Machine) (t : ℕ) (ts : List Tasked) (y : Tasked) → 0 < t → t - 1 < length m.tasks → ts ≡ set m.tasks (t - 1) y
+pub sum_with : (f : Measure) (m : Machine) (t : ℕ) (ts : List Tasked) (y : Tasked) → 0 < t → t - 1 < length m.tasks → ts ≡ set_task m.tasks t y
     → sum_tasks f 1 ts + f t (tasked m t) ≡ in_all f m + f t y
 sum_with f m t ts y positive inside e =
-    subst (λ us. sum_tasks f 1 us + f t (tasked m t) ≡ in_all f m + f t y) (sym e)
-    (subst (λ u. sum_tasks f 1 (set m.tasks (t - 1) y) + f u (tasked m t) ≡ in_all f m + f u y) (one_back t positive) (sum_set f 1 m.tasks (t - 1) y inside))
+    subst (λ us. sum_tasks f 1 us + f t (tasked m t) ≡ in_all f m + f t y) (sym (e ∙ set_place m.tasks t y positive))
+    (subst (λ x. sum_tasks f 1 (set m.tasks (t - 1) y) + f t x ≡ in_all f m + f t y) (sym (at_place m.tasks t idle positive))
+    (subst (λ u. sum_tasks f 1 (set m.tasks (t - 1) y) + f u (get_or m.tasks (t - 1) idle) ≡ in_all f m + f u y) (one_back t positive) (sum_set f 1 m.tasks (t - 1) y inside)))
 
 -- where every task is changed and this stays
 pub sum_mapped : (f : Measure) (g : Tasked → Tasked) → ((t : ℕ) (x : Tasked) → f t (g x) ≡ f t x) → (t : ℕ) (xs : List Tasked) → sum_tasks f t (map g xs) ≡ sum_tasks f t xs

@@ -3,7 +3,7 @@ use Rattle.std.proofs.Common.{◌≡◌, ℕ, ◌==◌, nat_lt, ◌&&◌, ◌||�
 use Rattle.std.proofs.lemmas.Bool.{cases_eq}
 use Rattle.std.proofs.lemmas.Grind.{common_steps}
 use Rattle.vch_value.specs.Picture.{Claimed, claims_at, is_nil}
-use Rattle.vch_value.proofs.Lists.{claims_here, claims_not, claims_there}
+use Rattle.vch_value.proofs.CallerLemmas.{claims_here, claims_not, claims_there}
 
 nothing_before : (a b : List Claimed) → a ++ b ≡ [] → (a ≡ []) × (b ≡ [])
 nothing_before [] b e = (refl, e)

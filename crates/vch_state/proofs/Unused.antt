@@ -1,36 +1,33 @@
 -- What a task stands for stays where one handle has no index any more, if the task does not use it.
-use Rattle.std.proofs.Common.{◌≡◌, ◌≢◌, ℕ, zero, suc, ◌==◌, ◌&&◌, ◌||◌, Bool, true, false, cond, List, [], ◌∷◌, ◌++◌, refl, sym, ap, ◌∙◌, subst, get_or, Option, Some, None}
+use Rattle.vch_state.proofs.KeyCases.{key_cases, same_key_refl}
+use Rattle.std.proofs.Common.{◌≡◌, ◌≢◌, ℕ, zero, suc, ◌==◌, ◌&&◌, ◌||◌, Bool, true, false, cond, List, [], ◌∷◌, ◌++◌, refl, sym, ap, ◌∙◌, subst, get_or, Option, Some, None, inl, inr}
 use Rattle.std.specs.List.{list_any, flat_map}
 use Rattle.vch_base.specs.declared.key.Key.{Key}
-use Rattle.vch_base.specs.declared.key.Key.TheVariants as keys
 use Rattle.vch_base.specs.Slots.{slot_at}
 use Rattle.vch_table.specs.declared.table.Cell.{Cell}
 use Rattle.vch_model.specs.declared.call.Call.{Call}
 use Rattle.vch_machine.specs.State as machine
-use Rattle.vch_machine.specs.State.{Handles, Place, Named, Message, Tasked, of_key, same_place, has_place, option_has, is_handle, frame_holds, task_holds, claim_at, frame_claims}
-use Rattle.vch_machine.specs.Naming.{all_keys}
-use Rattle.vch_legal.proofs.TaskLists.{before, behind}
+use Rattle.vch_base.specs.Keyed.{of_key}
+use Rattle.vch_machine.specs.State.{Handles, Place, Named, Message, Tasked, same_place, has_place, option_has, is_handle, frame_holds, task_holds, claim_at, frame_claims}
+use Rattle.vch_base.specs.Keys.{every_key}
+use Rattle.vch_legal.proofs.CallerLemmas.{before, behind}
+use Rattle.vch_base.specs.Tasks.{at_task}
 use Rattle.vch_state.specs.declared.frame.Frame.{Frame}
 use Rattle.vch_state.specs.declared.frame.Claiming.{Claiming}
 use Rattle.vch_state.specs.declared.frame.KeyIndex.{KeyIndex}
 use Rattle.vch_state.specs.Plain.{Plain, Part, SlotName, SlotMessage}
 use Rattle.vch_state.specs.Shape.{Indices, index_of, Pairwise, Optional, IsIndexOf, AreIndices, IsMap, HasMap, IsSlotOf, IsName, IsMessage, IsLet, IsClaim, IsFrame, IsTask}
-use Rattle.vch_state.specs.Pictures.{same_key}
+use Rattle.vch_base.specs.Keys.{same_key}
 
 pub either_false : (a b : Bool) → (a || b) ≡ false → (a ≡ false) × (b ≡ false)
 either_false false b e = (refl, e)
 either_false true b e = absurd (cc)
 
 other_place : (q g : Key) (h : ℕ) (w : Handles) (j : ℕ) → of_key q w ≡ Some j → is_handle (of_key g w) h ≡ false → (same_key q g && (j == h)) ≡ false
-other_place keys.Importance keys.Importance h w j e n = sym (ap (λ o. is_handle o h) e) ∙ n
-other_place keys.Bank keys.Bank h w j e n = sym (ap (λ o. is_handle o h) e) ∙ n
-other_place keys.User keys.User h w j e n = sym (ap (λ o. is_handle o h) e) ∙ n
-other_place keys.Importance keys.Bank h w j e n = refl
-other_place keys.Importance keys.User h w j e n = refl
-other_place keys.Bank keys.Importance h w j e n = refl
-other_place keys.Bank keys.User h w j e n = refl
-other_place keys.User keys.Importance h w j e n = refl
-other_place keys.User keys.Bank h w j e n = refl
+other_place q g h w j e n = elim (key_cases q g) [
+  | inl same ↦ ap (λ b. b && (j == h)) (subst (λ k. same_key q k ≡ true) same (same_key_refl q)) ∙ (sym (ap (λ o. is_handle o h) e) ∙ subst (λ k. is_handle (of_key k w) h ≡ false) (sym same) n)
+  | inr other ↦ ap (λ b. b && (j == h)) other
+]
 
 module _ (c d : Plain) (gone : Place) (stable : (q : Key) (i j : ℕ) → same_place (record { key = q; handle = j }) gone ≡ false → IsIndexOf c q i j → IsIndexOf d q i j) (table : d.table ≡ c.table) where
   index_stays : (q : Key) (w : Handles) (i o : Option ℕ) → has_place w gone ≡ false → of_key q w ≡ o → Optional (IsIndexOf c q) i o → Optional (IsIndexOf d q) i o
@@ -48,7 +45,7 @@ module _ (c d : Plain) (gone : Place) (stable : (q : Key) (i j : ℕ) → same_p
     where
       by : (o : Option Cell) → HasMap c o w → HasMap d o w
       by None p = absurd p
-      by (Some cell) p = (indices_stay all_keys cell.indices w n p.0, p.1)
+      by (Some cell) p = (indices_stay every_key cell.indices w n p.0, p.1)
 
   names_stay : (ns : List SlotName) (os : List Named) → list_any (λ (n : Named). has_place n.voucher gone) os ≡ false → Pairwise (IsName c) ns os → Pairwise (IsName d) ns os
   names_stay [] [] n p = tt
@@ -83,7 +80,7 @@ module _ (c d : Plain) (gone : Place) (stable : (q : Key) (i j : ℕ) → same_p
 
   forming_stays : (v : Option Indices) (w : Option Handles) → option_has w gone ≡ false → Optional (IsMap c) v w → Optional (IsMap d) v w
   forming_stays None None n p = tt
-  forming_stays (Some v) (Some w) n p = (indices_stay all_keys v w n p.0, p.1)
+  forming_stays (Some v) (Some w) n p = (indices_stay every_key v w n p.0, p.1)
   forming_stays None (Some w) n p = absurd p
   forming_stays (Some v) None n p = absurd p
 
@@ -107,6 +104,7 @@ module _ (c d : Plain) (gone : Place) (stable : (q : Key) (i j : ℕ) → same_p
       let e = either_false (option_has g.forming gone) (list_any (λ q. same_place q gone) g.lets) n in record {
         forming = forming_stays f.forming g.forming e.0 p.forming;
         at_byte = p.at_byte;
+        answered = p.answered;
         keys_ = p.keys_;
         forms = p.forms;
         takes = p.takes;
@@ -148,12 +146,15 @@ flat_empty f d n [] j e = n
 flat_empty f d n (x ∷ xs) zero e = (both_empty (f x) (flat_map f xs) e).0
 flat_empty f d n (x ∷ xs) (suc j) e = flat_empty f d n xs j (both_empty (f x) (flat_map f xs) e).1
 
-pub others_empty : {X A : Type 0} (f : X → List A) (d : X) → f d ≡ [] → (xs : List X) (i j : ℕ) → before f xs i ≡ [] → behind f xs i ≡ [] → j ≢ i → f (get_or xs j d) ≡ []
-others_empty f d n [] i j a b q = n
-others_empty f d n (x ∷ xs) zero zero a b q = absurd (q refl)
-others_empty f d n (x ∷ xs) zero (suc j) a b q = flat_empty f d n xs j b
-others_empty f d n (x ∷ xs) (suc i) zero a b q = (both_empty (f x) (before f xs i) a).0
-others_empty f d n (x ∷ xs) (suc i) (suc j) a b q = others_empty f d n xs i j (both_empty (f x) (before f xs i) a).1 b (λ e. q (ap suc e))
+pub others_empty : {X A : Type 0} (f : X → List A) (d : X) → f d ≡ [] → (xs : List X) (t u : ℕ) → before f xs t ≡ [] → behind f xs t ≡ [] → u ≢ t → f (at_task xs u d) ≡ []
+others_empty f d n xs zero zero a b q = absurd (q refl)
+others_empty f d n xs zero (suc j) a b q = flat_empty f d n xs j b
+others_empty f d n xs (suc i) zero a b q = n
+others_empty f d n [] (suc i) (suc j) a b q = n
+others_empty f d n (x ∷ xs) (suc zero) (suc zero) a b q = absurd (q refl)
+others_empty f d n (x ∷ xs) (suc zero) (suc (suc j)) a b q = flat_empty f d n xs j b
+others_empty f d n (x ∷ xs) (suc (suc i)) (suc zero) a b q = (both_empty (f x) (before f xs (suc i)) a).0
+others_empty f d n (x ∷ xs) (suc (suc i)) (suc (suc j)) a b q = others_empty f d n xs (suc i) (suc j) (both_empty (f x) (before f xs (suc i)) a).1 b (λ e. q (ap suc e))
 
 -- a list with one element that one of three pieces gives
 pub lone : {A : Type 0} (a b : List A) (x y : A) → a ++ (x ∷ b) ≡ y ∷ [] → (a ≡ []) × (b ≡ [])

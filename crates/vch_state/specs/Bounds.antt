@@ -1,5 +1,5 @@
 -- How far a run can have come: what bounds the counts of a core.
-use Rattle.std.specs.Prelude.{ℕ, ◌+◌, ◌-◌, ◌*◌, ◌<◌, ◌≤◌, if◌then◌else◌, List, [], ◌∷◌, length, drop, slice_index_or, Option, Some, None, is_some}
+use Rattle.std.specs.Prelude.{ℕ, ◌+◌, ◌-◌, ◌*◌, ◌<◌, ◌≤◌, if◌then◌else◌, List, [], ◌∷◌, length, drop, Option, Some, None, is_some}
 use Rattle.std.specs.List.{AllByRecursion}
 use Rattle.vch_model.specs.Lines.{lines_of, phases_in}
 use Rattle.vch_model.specs.Scenarios.{line_count}
@@ -7,7 +7,7 @@ use Rattle.vch_model.specs.declared.call.Call.{Call}
 use Rattle.vch_model.specs.declared.call.Call.TheVariants as calls
 use Rattle.vch_model.specs.declared.call.Line.{Line}
 use Rattle.vch_model.specs.declared.lists.Scenario.{Scenario}
-use Rattle.vch_machine.specs.State.{Handles, Frame, Named, Tasked, Machine, idle, is_empty}
+use Rattle.vch_machine.specs.State.{Handles, Frame, Named, Tasked, Machine, tasked, is_empty}
 use Rattle.vch_machine.specs.Next.{nth_call}
 use Rattle.vch_legal.specs.Facts.{bit}
 
@@ -113,4 +113,4 @@ pub record Spent (sc : Scenario) (m : Machine) : Type 0 where
   pub references : in_all references_in m + in_all open_in m ≤ in_all begun_in m
   pub past : length m.past + in_all open_in m ≤ m.tally.refers + in_all flying_in m + m.tally.asks + in_all begun_in m + phases_in m.past
   pub phases : phases_in m.past ≤ length sc.phases
-  pub tasks : (i : ℕ) → TaskSpent sc (i + 1) (slice_index_or m.tasks i idle)
+  pub tasks : (t : ℕ) → TaskSpent sc t (tasked m t)

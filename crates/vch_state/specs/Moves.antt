@@ -8,7 +8,7 @@ use Rattle.vch_value.specs.Flight.{Claim}
 use Rattle.vch_model.specs.declared.entry.Entry.{Entry}
 use Rattle.vch_model.specs.declared.entry.Entry.TheVariants.{Released}
 use Rattle.vch_table.specs.Indices.{Bounded, SetsIndex}
-use Rattle.vch_machine.specs.State.{of_key, with_key}
+use Rattle.vch_base.specs.Keyed.{of_key, with_key}
 use Rattle.vch_state.specs.declared.frame.Frame.{Frame}
 use Rattle.vch_state.specs.declared.frame.Claiming.{Claiming}
 use Rattle.vch_state.specs.declared.frame.KeyIndex.{KeyIndex}

@@ -25,17 +25,17 @@ abbrev pub known_slot : List SlotName → ℕ → Option Voucher
 known_slot names n = known (by_name names n)
 
 -- of a create at its next record
-abbrev pub record_kind : List SlotName → First → Kind
-record_kind names (One r rest) = if asks (known_slot names) r then kinds.Make else kinds.Work
-record_kind names First.End = kinds.Place
-record_kind names (First.HeaderCut left) = kinds.Work
-record_kind names (First.ContentCut wanted left) = kinds.Work
+abbrev pub record_kind : ℕ → List SlotName → First → Kind
+record_kind version names (One r rest) = if asks version (known_slot names) r then kinds.Make else kinds.Work
+record_kind version names First.End = kinds.Place
+record_kind version names (First.HeaderCut left) = kinds.Work
+record_kind version names (First.ContentCut wanted left) = kinds.Work
 
 -- of a call that is not answered: here only a create forms a voucher
-abbrev pub forming_kind : List SlotName → Option Call → ℕ → Option Indices → Option Kind
-forming_kind names call at None = None
-forming_kind names (Some (calls.Create bytes)) at (Some v) = Some (record_kind names (first_of (drop at bytes)))
-forming_kind names call at (Some v) = None
+abbrev pub forming_kind : ℕ → List SlotName → Option Call → ℕ → Option Indices → Option Kind
+forming_kind version names call at None = None
+forming_kind version names (Some (calls.Create bytes)) at (Some v) = Some (record_kind version names (first_of (drop at bytes)))
+forming_kind version names call at (Some v) = None
 
 -- the kind that there is, or else the other
 abbrev pub first_kind : Option Kind → Option Kind → Option Kind
@@ -45,4 +45,4 @@ first_kind None other = other
 -- of a task, by its names, its calls begun and its frame
 abbrev pub task_kind : Scenario → List SlotName → ℕ → ℕ → ℕ → Option Frame → Option Kind
 task_kind sc names t phase begun None = if nat_lt begun (lines_until sc (phase + 1) t) then Some kinds.Begin else None
-task_kind sc names t phase begun (Some f) = first_kind (value_kind (Some f)) (forming_kind names (nth_call sc t begun) f.at f.forming)
+task_kind sc names t phase begun (Some f) = first_kind (value_kind (Some f)) (forming_kind sc.version names (nth_call sc t begun) f.at f.forming)

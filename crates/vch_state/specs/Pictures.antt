@@ -1,24 +1,22 @@
 -- The picture of a key, taken from a core and a state together: what holds its handles by the machine's frames and the
 -- core's table, the receipts of the core, and the claims with the machine's marks and the core's `sync`.
-use Rattle.std.specs.Prelude.{ℕ, ◌==◌, Bool, if◌then◌else◌, List, [], ◌∷◌, ◌++◌, Option, Some, None}
+use Rattle.std.specs.Prelude.{ℕ, if◌then◌else◌, List, [], ◌∷◌, ◌++◌, Option, Some, None}
 use Rattle.std.specs.List.{flat_map}
 use Rattle.vch_base.specs.declared.key.Key.{Key}
-use Rattle.vch_base.specs.Keys.{number_of}
+use Rattle.vch_base.specs.Keys.{same_key}
 use Rattle.vch_entry.specs.declared.table.Entry.{Entry}
 use Rattle.vch_entry.specs.Entries.{handle_at}
 use Rattle.vch_value.specs.Flight.{Receipt}
 use Rattle.vch_value.specs.Picture.{Picture, Claimed}
 use Rattle.vch_table.specs.declared.table.Cell.{Cell}
 use Rattle.vch_machine.specs.State as machine
-use Rattle.vch_machine.specs.State.{of_key, Handles, Place, Tasked, Machine}
+use Rattle.vch_base.specs.Keyed.{of_key}
+use Rattle.vch_machine.specs.State.{Handles, Place, Tasked, Machine}
 use Rattle.vch_state.specs.declared.frame.Frame.{Frame}
 use Rattle.vch_state.specs.declared.frame.Claiming.{Claiming}
 use Rattle.vch_state.specs.declared.frame.KeyReceipt.{KeyReceipt}
 use Rattle.vch_state.specs.Plain.{Plain, Part}
 use Rattle.vch_state.specs.Shape.{index_of, slots_of}
-
-abbrev pub same_key : Key → Key → Bool
-same_key k l = number_of k == number_of l
 
 abbrev pub listed : Option ℕ → List ℕ
 listed None = []

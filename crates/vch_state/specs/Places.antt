@@ -1,5 +1,5 @@
 -- Where the lines of each task stand in a scenario.
-use Rattle.std.specs.Prelude.{◌≡◌, ℕ, ◌+◌, ◌-◌, ◌==◌, if◌then◌else◌, List, [], ◌++◌, length, map, take, slice_get, slice_index_or, Option, Some, None}
+use Rattle.std.specs.Prelude.{◌≡◌, ◌⊎◌, ℕ, ◌+◌, ◌-◌, ◌==◌, if◌then◌else◌, List, [], ◌++◌, length, map, take, slice_get, slice_index_or, Option, Some, None}
 use Rattle.std.specs.List.{filter}
 use Rattle.vch_model.specs.Lines.{lines_from}
 use Rattle.vch_model.specs.Scenarios.{line_count}
@@ -25,8 +25,10 @@ pub record Placed (tasks : ℕ) (phases : List (List Line)) (lines : List (ℕ �
   pub long : length places ≡ tasks
   pub each : (t : ℕ) → map (line_at_spot phases) (spots_of places t) ≡ map (λ l. Some l) (filter (λ l. l.1.task == t) lines)
 
--- what is kept of a scenario: where the lines of each task stand, and how many calls there are
+-- what is kept of a scenario: that its version is one of the two, where the lines of each task stand, and how many calls
+-- there are
 pub record IsIndexOf (sc : Scenario) (places : List (List Spot)) (calls : ℕ) : Type 0 where
+  pub version : (sc.version ≡ 1) ⊎ (sc.version ≡ 2)
   pub placed : Placed (length sc.flags) sc.phases (lines_from 1 sc.phases) places
   pub counted : calls ≡ line_count sc.phases
 

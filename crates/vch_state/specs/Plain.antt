@@ -1,8 +1,10 @@
 -- The parts of a core as plain data.
-use Rattle.std.specs.Prelude.{ℕ, ◌+◌, ◌-◌, ◌||◌, not, if◌then◌else◌, Bool, true, false, List, [], Option, Some, None, is_some, slice_index_or, slice_set}
+use Rattle.std.specs.Prelude.{ℕ, ◌+◌, ◌||◌, not, if◌then◌else◌, Bool, true, false, List, [], Option, Some, None, is_some, slice_index_or}
+use Rattle.vch_base.specs.Tasks.{at_task, set_task}
 use Rattle.vch_base.specs.Managers.{Kept}
 use Rattle.vch_entry.specs.Entries.{Entries}
-use Rattle.vch_machine.specs.State.{Keyed, is_empty}
+use Rattle.vch_base.specs.Keyed.{Keyed, everywhere}
+use Rattle.vch_machine.specs.State.{is_empty}
 use Rattle.vch_model.specs.declared.entry.Entry.{Entry}
 use Rattle.vch_table.specs.declared.table.Cell.{Cell}
 use Rattle.vch_ports.specs.Names.{Names}
@@ -18,7 +20,7 @@ resting = record { begun = 0; frame = None }
 
 -- what a task works at, its frame, and how many calls it has begun
 abbrev pub working_of : List Working → ℕ → Working
-working_of frames t = slice_index_or frames (t - 1) resting
+working_of frames t = at_task frames t resting
 
 abbrev pub frame_of : List Working → ℕ → Option Frame
 frame_of frames t = (working_of frames t).frame
@@ -28,22 +30,22 @@ begun_of frames t = (working_of frames t).begun
 
 -- with another frame of a task, or none
 abbrev pub with_frame_of : List Working → ℕ → Option Frame → List Working
-with_frame_of frames t f = slice_set frames (t - 1) (record (working_of frames t) { frame = f })
+with_frame_of frames t f = set_task frames t (record (working_of frames t) { frame = f })
 
 -- with one call more that a task has begun
 abbrev pub with_begun_of : List Working → ℕ → List Working
-with_begun_of frames t = slice_set frames (t - 1) (record (working_of frames t) { begun = begun_of frames t + 1 })
+with_begun_of frames t = set_task frames t (record (working_of frames t) { begun = begun_of frames t + 1 })
 
 -- a task without names, and the names of a task
 abbrev pub no_names : Names
 no_names = record { names = []; next = 1; spare = 0 }
 
 abbrev pub names_of : List Names → ℕ → Names
-names_of spaces t = slice_index_or spaces (t - 1) no_names
+names_of spaces t = at_task spaces t no_names
 
 -- with other names of a task
 abbrev pub with_names_of : List Names → ℕ → Names → List Names
-with_names_of spaces t n = slice_set spaces (t - 1) n
+with_names_of spaces t n = set_task spaces t n
 
 -- nothing is claimed
 abbrev pub is_nothing : Claiming → Bool
@@ -60,7 +62,7 @@ abbrev pub number_at : List ℕ → ℕ → ℕ
 number_at numbers h = slice_index_or numbers h 0
 
 abbrev pub no_numbers : Keyed (List ℕ)
-no_numbers = record { importance = []; bank = []; user = [] }
+no_numbers = everywhere []
 
 -- a name of a task: the slot of its voucher, and its user references
 abbrev pub SlotName : Type 0
@@ -101,10 +103,10 @@ abbrev pub idle_part : Part
 idle_part = record { names = []; next = 1; queue = []; begun = 0; frame = None }
 
 abbrev pub part_of : Plain → ℕ → Part
-part_of c t = slice_index_or c.tasks (t - 1) idle_part
+part_of c t = at_task c.tasks t idle_part
 
 abbrev pub with_frame : Part → Option Frame → Part
 with_frame x f = record x { frame = f }
 
 abbrev pub with_part : Plain → ℕ → Part → Plain
-with_part c t x = record c { tasks = slice_set c.tasks (t - 1) x }
+with_part c t x = record c { tasks = set_task c.tasks t x }

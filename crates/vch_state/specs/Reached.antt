@@ -3,6 +3,7 @@ use Rattle.std.specs.Prelude.{◌≡◌, ℕ, Bool, List, [], ◌∷◌, Option,
 use Rattle.vch_base.specs.declared.key.Key.TheVariants as keys
 use Rattle.vch_base.specs.declared.kind.Kind.{Kind}
 use Rattle.vch_base.specs.declared.kind.Kind.TheVariants as kinds
+use Rattle.vch_base.specs.Keyed.{everywhere}
 use Rattle.vch_base.specs.Managers.{user_rules}
 use Rattle.vch_model.specs.declared.lists.Scenario.{Scenario}
 use Rattle.vch_ports.specs.Names.{Names}
@@ -35,7 +36,7 @@ no_parts = record { entries = record { slots = []; spare = 0 }; kept = record { 
 -- the parts as plain data
 abbrev pub plain_of : Parts → Plain
 plain_of p = record {
-  keyed = record { importance = no_parts; bank = no_parts; user = record { entries = p.user_entries; kept = p.user; numbers = p.made.user } };
+  keyed = record (everywhere no_parts) { user = record { entries = p.user_entries; kept = p.user; numbers = p.made.user } };
   table = p.vouchers;
   tasks = parts_in p.spaces p.frames;
   history = p.history.entries;
@@ -58,7 +59,7 @@ IsEnd sc c = (moves : List Move) × (m : Machine) × (run_from_start sc moves �
 abbrev pub Reached : Parts → Type 0
 Reached p = IsEnd p.scenario (plain_of p)
 
--- one event of a task, of this kind, over plain data: with memory wanted, or without
+-- one event of a task, of this kind, over plain data: with memory out, or not
 unfoldable pub IsEventBy : Scenario → Bool → Kind → ℕ → Plain → Plain → Type 0
 IsEventBy sc want kind t old new =
     (m : Machine) → IsState sc old m → (n : Machine) × (event sc want m t ≡ Some n) × (next_kind sc m t ≡ Some kind) × IsState sc new n

@@ -1,9 +1,9 @@
 -- When names, frames and the voucher table of a core are those of a state of the event machine. The core has indices of
 -- entries and slots of a table where the machine has handles.
-use Rattle.std.specs.Prelude.{◌≡◌, ℕ, ◌+◌, ◌-◌, ◌<◌, ◌==◌, nat_le, Bool, false, if◌then◌else◌, List, [], ◌∷◌, length, Option, Some, None, is_some}
+use Rattle.std.specs.Prelude.{◌≡◌, ℕ, ◌+◌, ◌-◌, ◌<◌, ◌==◌, nat_le, Bool, false, not, if◌then◌else◌, List, [], ◌∷◌, length, Option, Some, None, is_some}
 use Rattle.vch_base.specs.declared.key.Key.{Key}
 use Rattle.vch_base.specs.declared.key.Key.TheVariants as keys
-use Rattle.vch_base.specs.Keys.{number_of, key_of}
+use Rattle.vch_base.specs.Keys.{number_of, key_numbered, every_key}
 use Rattle.vch_base.specs.Slots.{slot_at}
 use Rattle.vch_entry.specs.declared.table.Entry.{Entry}
 use Rattle.vch_entry.specs.Entries.{handle_at}
@@ -15,8 +15,8 @@ use Rattle.vch_model.specs.declared.call.Call.{Call}
 use Rattle.vch_model.specs.declared.call.Call.TheVariants as calls
 use Rattle.vch_model.specs.declared.lists.Scenario.{Scenario}
 use Rattle.vch_machine.specs.State as machine
-use Rattle.vch_machine.specs.State.{of_key, Handles, Place, Named, Message, Tasked, Machine, tasked}
-use Rattle.vch_machine.specs.Naming.{all_keys}
+use Rattle.vch_base.specs.Keyed.{of_key}
+use Rattle.vch_machine.specs.State.{Handles, Place, Named, Message, Tasked, Machine, tasked}
 use Rattle.vch_machine.specs.Next.{current}
 use Rattle.vch_state.specs.declared.frame.Frame.{Frame}
 use Rattle.vch_state.specs.declared.frame.Claiming.{Claiming}
@@ -62,11 +62,11 @@ AreIndices c (k ∷ ks) v w = Optional (IsIndexOf c k) (index_of k v) (of_key k 
 -- the keys of a voucher are of managers, in rising order
 pub record IsKeyed (v : Indices) : Type 0 where
   pub bounded : Bounded v
-  pub managed : (n : ℕ) → key_of n ≡ None → index_at v n ≡ None
+  pub managed : (n : ℕ) → key_numbered n ≡ None → index_at v n ≡ None
 
 -- it has the handles at the keys of managers, and no other key
 abbrev pub IsMap : Plain → Indices → Handles → Type 0
-IsMap c v w = AreIndices c all_keys v w × IsKeyed v
+IsMap c v w = AreIndices c every_key v w × IsKeyed v
 
 -- Names and queues, by the slots of the table.
 
@@ -107,15 +107,15 @@ abbrev pub with_value : Indices → List Key → List Key
 with_value v [] = []
 with_value v (k ∷ ks) = if is_some (index_of k v) then k ∷ with_value v ks else with_value v ks
 
--- the keys that are left of a call, as the machine lists them: 0 stands for none
+-- the keys that are left of a call, as the machine lists them: 0 stands for none. No record of all keys is run yet
 abbrev pub keys_left : Option Call → Option Indices → ℕ → List Key
-keys_left (Some (calls.Create bytes)) v n = if n == 0 then [] else keys_from n all_keys
 keys_left (Some (calls.Send to moving name id)) (Some v) n = if n == 0 then [] else with_value v (keys_from n (keys.Bank ∷ []))
 keys_left (Some calls.Recv) (Some v) n = if n == 0 then [] else with_value v (keys_from n (keys.Importance ∷ keys.Bank ∷ []))
 keys_left call v n = []
 
 pub record IsFrame (c : Plain) (call : Option Call) (f : Frame) (g : machine.Frame) : Type 0 where
   pub forming : Optional (IsMap c) f.forming g.forming
+  pub answered : g.answered ≡ not (is_some f.forming)
   pub at_byte : f.at ≡ g.at_byte
   pub keys_ : keys_left call f.forming f.key ≡ g.keys
   pub receipt : Optional IsReceipt f.receipt g.receipt

@@ -11,7 +11,8 @@ use Rattle.vch_table.specs.Vouchers.{live_slots}
 use Rattle.vch_model.specs.Lines.{phases_in}
 use Rattle.vch_model.specs.declared.lists.Scenario.{Scenario}
 use Rattle.vch_machine.specs.State as machine
-use Rattle.vch_machine.specs.State.{of_key, Living, Machine, living_at}
+use Rattle.vch_base.specs.Keyed.{of_key}
+use Rattle.vch_machine.specs.State.{Living, Machine, living_at}
 use Rattle.vch_legal.specs.Facts.{Fits}
 use Rattle.vch_state.specs.declared.tally.Tally.{Tally}
 use Rattle.vch_state.specs.Plain.{Plain, number_at}

@@ -2,7 +2,7 @@ ghost use Rattle.std.specs.Prelude.{◌≡◌, ◌<◌, ◌≤◌, ◌++◌, ◌
 
 use std::alloc::Global;
 use vch_base::{Bytes, NoMemory};
-use vch_model::{Call, FlagList, Line, LineList, PhaseList, Scenario};
+use vch_model::{Call, FlagList, Line, LineList, PhaseList, QueueList, Scenario};
 
 /// A copy of a call.
 fn copy_call(alloc: Global, call: &Call) -> Result<Call, NoMemory>
@@ -39,6 +39,7 @@ fn copy_call(alloc: Global, call: &Call) -> Result<Call, NoMemory>
         Call::Ledger => Call::Ledger,
         Call::Assertions => Call::Assertions,
         Call::Live => Call::Live,
+        Call::Exit => Call::Exit,
     })
 }
 
@@ -88,11 +89,28 @@ fn copy_flags(alloc: Global, flags: &FlagList) -> Result<FlagList, NoMemory>
     Ok(made)
 }
 
+/// A copy of the queue limits.
+fn copy_queues(alloc: Global, queues: &QueueList) -> Result<QueueList, NoMemory>
+    ensures { IfOk result (λ made. made ≡ queues.now) }
+{
+    let mut made = QueueList::new(alloc);
+    for i in 0..queues.len() {
+        made.push(*queues.at(i))?;
+    }
+    Ok(made)
+}
+
 /// A copy of a scenario.
 pub fn copy_scenario(alloc: Global, scenario: &Scenario) -> Result<Scenario, NoMemory>
     ensures { IfOk result (λ made. made ≡ scenario.now) }
 {
     let flags = copy_flags(alloc, &scenario.flags)?;
+    let queues = copy_queues(alloc, &scenario.queues)?;
     let phases = copy_phases(alloc, &scenario.phases)?;
-    Ok(Scenario { flags, phases })
+    Ok(Scenario {
+        version: scenario.version,
+        flags,
+        queues,
+        phases,
+    })
 }

@@ -1,4 +1,6 @@
-ghost use Rattle.std.specs.Prelude.{◌≡◌, ◌<◌, IfSome, length};
+ghost use Rattle.std.specs.Prelude.{◌≡◌, ◌<◌, None, IfSome, length};
+ghost use Rattle.vch_base.specs.Keys.{number_of};
+ghost use Rattle.vch_table.specs.Indices.{index_at};
 ghost use Rattle.vch_state.specs.Moves.{PutsIndex};
 
 use crate::{Frame, KeyIndex};
@@ -7,7 +9,7 @@ use vch_base::Key;
 /// Puts an index at a key of the voucher that the frame forms, or takes the key away. What stood there is to be let go of,
 /// also where the same index is put there again. At most four steps.
 pub fn put_index(frame: &mut Frame, key: Key, index: Option<u32>)
-    requires keys { IfSome frame.old.forming (λ v. length v < 4) }
+    requires keys { IfSome frame.old.forming (λ v. index_at v (number_of key) ≡ None → length v < 4) }
     requires lets { length frame.old.lets < 12 }
     ensures { IfSome frame.old.forming (λ v. PutsIndex key index v frame.old frame.new) }
 {

@@ -38,7 +38,7 @@ impl Frames {
         }
     }
 
-    /// One more task, which has begun no call. The one error is want of memory.
+    /// One more task, which has begun no call. The one error is out of memory.
     pub fn push(&mut self) -> Result<(), NoMemory>
         ensures ok { OnOk result (self.new ≡ self.old ++ record { begun = 0; frame = None } ∷ []) }
         ensures err { OnErr result (self.new ≡ self.old) }
@@ -66,10 +66,12 @@ impl Frames {
     }
 
     /// Takes a task's frame out; the task has none then.
+    #[tactic(auto, using(crate::proofs::Numbered::as_many))]
     pub fn take(&mut self, task: u32) -> Option<Frame>
         requires task { (0 < task) × (task ≤ length self.old) }
         ensures frame { result ≡ frame_of self.old task }
         ensures gone { self.new ≡ with_frame_of self.old task None }
+        ensures many { length self.new ≡ length self.old }
     {
         self.items[task as usize - 1].frame.take()
     }

@@ -36,7 +36,7 @@
 //! Of the events, Refer, LetGo, Ask and Recheck are here, each a function of its own, and `value_event` does which of them is
 //! next; so is the end of a phase. Begin, Work, Make and Place belong to the calls, and stand in crates above. Which event
 //! is next is told by [`Core::next_kind`], for each state that the core stands for; a phase ends exactly where no task has
-//! one. A proved caller:
+//! a frame or a line of the phase that was not begun. A proved caller:
 //!
 //! ```rust
 //! let mut core = Core::start(alloc, &scenario)?;

@@ -1,6 +1,6 @@
 ghost use Rattle.std.specs.Prelude.{◌≡◌, ◌≢◌, ◌≤◌, ◌<◌, [], ℕ, OnOk, OnErr, length, slice_set};
 ghost use Rattle.vch_base.specs.declared.key.Key.{Key};
-ghost use Rattle.vch_machine.specs.State.{of_key, with_key};
+ghost use Rattle.vch_base.specs.Keyed.{of_key, with_key};
 ghost use Rattle.vch_state.specs.Plain.{number_at, no_numbers};
 
 use std::alloc::Global;
@@ -17,11 +17,11 @@ pub struct MadeNumbers {
 
 impl Model for MadeNumbers {
     ghost use Rattle.std.specs.Prelude.{List, ℕ, []};
-    ghost use Rattle.vch_machine.specs.State.{Keyed};
+    ghost use Rattle.vch_base.specs.Keyed.{Keyed};
 
     ghost Value = { Keyed (List ℕ) };
 
-    ghost view = { λ m. record { importance = []; bank = []; user = m.user.items } };
+    ghost view = { λ m. record { importance = []; bank = []; user = m.user.items; test = [] } };
 }
 
 impl MadeNumbers {
@@ -40,7 +40,7 @@ impl MadeNumbers {
     {
         match key {
             Key::User => self.user.get(handle as usize).copied().unwrap_or(0),
-            Key::Importance | Key::Bank => 0,
+            Key::Importance | Key::Bank | Key::Test => 0,
         }
     }
 
@@ -49,7 +49,7 @@ impl MadeNumbers {
     ///
     /// # Errors
     ///
-    /// Want of memory alone, which leaves the numbers as they were.
+    /// Out of memory alone, which leaves the numbers as they were.
     pub fn reserve(&mut self, key: Key, handle: u32) -> Result<(), NoMemory>
         requires { key ≡ Key.User }
         ensures room { OnOk result (handle < length (of_key key self.new)) }
@@ -58,7 +58,7 @@ impl MadeNumbers {
     {
         match key {
             Key::User => make_room(&mut self.user, handle),
-            Key::Importance | Key::Bank => Ok(()),
+            Key::Importance | Key::Bank | Key::Test => Ok(()),
         }
     }
 
@@ -72,7 +72,7 @@ impl MadeNumbers {
     {
         match key {
             Key::User => self.user[handle as usize] = number,
-            Key::Importance | Key::Bank => {}
+            Key::Importance | Key::Bank | Key::Test => {}
         }
     }
 }

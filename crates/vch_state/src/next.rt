@@ -1,4 +1,6 @@
-ghost use Rattle.std.specs.Prelude.{◌≡◌, ◌≤◌, ◌<◌, ◌-◌, ◌↔◌, IsSome, IsTrue, drop, length};
+ghost use Rattle.std.specs.Prelude.{◌≡◌, ◌⊎◌, ◌≤◌, ◌<◌, ◌-◌, ◌↔◌, IsSome, IsTrue, drop, length};
+ghost use Rattle.vch_model.specs.Eval as eval;
+ghost use Rattle.vch_model.specs.Legal as legal;
 ghost use Rattle.vch_recipe.specs.Recipes.{first_of};
 ghost use Rattle.vch_model.specs.Legal.{asks};
 ghost use Rattle.vch_model.specs.Lines.{is_task};
@@ -9,31 +11,58 @@ ghost use Rattle.vch_state.specs.Nexts.{known_slot};
 ghost use Rattle.vch_state.specs.Reached.{IsNext, Reached};
 
 use crate::{Core, Frame, Script, Working};
+use vch_base::commands::{
+    AUTO_REDEEM, COPY, NOOP, REDEEM, REMOVE, SEND_PREPROCESS, SET_VALUE_HANDLE,
+};
 use vch_base::{ALL_KEYS, Key, Kind};
 use vch_model::Call;
 use vch_ports::Space;
 use vch_recipe::{Step, next_recipe};
 
-/// The last command that is no manager's. That a manager's commands are above it is the kernel release's.
-const LAST_OWN_COMMAND: u32 = 5;
+/// Whether a command is one that no record may give.
+fn is_core_command(command: u32) -> bool
+    ensures { result ≡ eval.is_core_command command }
+{
+    command == SET_VALUE_HANDLE || (command == AUTO_REDEEM || command == SEND_PREPROCESS)
+}
 
-/// The command that redeems the previous voucher's value, of one key or of all.
-const REDEEM: u32 = 10;
+/// Whether a command needs no manager.
+fn is_plain_command(command: u32) -> bool
+    ensures { result ≡ eval.is_plain_command command }
+{
+    command == NOOP || (command == COPY || command == REMOVE)
+}
+
+/// Whether a command is given to a manager.
+fn is_managers(command: u32) -> bool
+    ensures { result ≡ legal.is_managers command }
+{
+    !(is_core_command(command) || is_plain_command(command))
+}
 
 /// Whether a whole record asks a manager. One that names a previous voucher which is not there asks none.
-fn asks_manager(space: &Space, key: u32, command: u32, previous: u32, content: &[u8]) -> bool
-    ensures { result ≡ asks (known_slot space.now.names) (record { key = key; command = command; previous = previous; content = content.now }) }
+fn asks_manager(
+    version: u32,
+    space: &Space,
+    key: u32,
+    command: u32,
+    previous: u32,
+    content: &[u8],
+) -> bool
+    requires { (version ≡ 1) ⊎ (version ≡ 2) }
+    ensures { result ≡ asks version (known_slot space.now.names) (record { key = key; command = command; previous = previous; content = content.now }) }
 {
     if previous != 0 && space.look(previous).is_none() {
         return false;
     }
-    let redeems_all = command == REDEEM && key == ALL_KEYS && content.is_empty();
-    command > LAST_OWN_COMMAND && Key::of(key).is_some() || redeems_all
+    let redeems_all = command == REDEEM && (key == ALL_KEYS && content.is_empty());
+    is_managers(command) && Key::of(key, version).is_some() || redeems_all
 }
 
 /// The event of a create at its next record, or at the end of its bytes.
-fn record_kind(space: &Space, bytes: &[u8], at: usize) -> Kind
-    ensures { result ≡ nexts.record_kind space.now.names (first_of (drop at bytes.now)) }
+fn record_kind(version: u32, space: &Space, bytes: &[u8], at: usize) -> Kind
+    requires { (version ≡ 1) ⊎ (version ≡ 2) }
+    ensures { result ≡ nexts.record_kind version space.now.names (first_of (drop at bytes.now)) }
 {
     if bytes.len() <= at {
         return Kind::Place;
@@ -46,7 +75,7 @@ fn record_kind(space: &Space, bytes: &[u8], at: usize) -> Kind
             content,
             ..
         } => {
-            if asks_manager(space, key, command, previous, content) {
+            if asks_manager(version, space, key, command, previous, content) {
                 Kind::Make
             } else {
                 Kind::Work
@@ -65,13 +94,16 @@ fn forming_kind(
     begun: u32,
     frame: &Frame,
 ) -> Option<Kind>
-    ensures { result ≡ nexts.forming_kind space.now.names (nth_call script.now task begun) frame.now.at frame.now.forming }
+    ensures { result ≡ nexts.forming_kind script.now.version space.now.names (nth_call script.now task begun) frame.now.at frame.now.forming }
 {
     if frame.forming.is_none() {
         return None;
     }
     match script.call(task, begun)? {
-        Call::Create { bytes } => Some(record_kind(space, bytes.as_slice(), frame.at)),
+        Call::Create { bytes } => {
+            let kind = record_kind(script.version(), space, bytes.as_slice(), frame.at);
+            Some(kind)
+        }
         _ => None,
     }
 }

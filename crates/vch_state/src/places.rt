@@ -40,7 +40,7 @@ impl Spots {
         }
     }
 
-    /// One more line. The one error is want of memory.
+    /// One more line. The one error is out of memory.
     fn push(&mut self, spot: Spot) -> Result<(), NoMemory>
         ensures ok { OnOk result (self.new ≡ self.old ++ spot ∷ []) }
         ensures err { OnErr result (self.new ≡ self.old) }
@@ -75,7 +75,7 @@ impl Places {
         }
     }
 
-    /// One more task, without a line. The one error is want of memory.
+    /// One more task, without a line. The one error is out of memory.
     fn push(&mut self, alloc: Global) -> Result<(), NoMemory>
         ensures ok { OnOk result (self.new ≡ self.old ++ [] ∷ []) }
         ensures err { OnErr result (self.new ≡ self.old) }
@@ -84,7 +84,7 @@ impl Places {
         Ok(())
     }
 
-    /// One more line of a task. The one error is want of memory.
+    /// One more line of a task. The one error is out of memory.
     fn add(&mut self, task: u32, spot: Spot) -> Result<(), NoMemory>
         requires task { (0 < task) × (task ≤ length self.old) }
         ensures { OnOk result (self.new ≡ slice_set self.old (task - 1) (slice_index_or self.old (task - 1) [] ++ spot ∷ [])) }

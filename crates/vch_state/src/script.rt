@@ -1,4 +1,4 @@
-ghost use Rattle.std.specs.Prelude.{◌≡◌, ◌≤◌, ◌<◌, ◌+◌, ◌↔◌, IfOk, IsTrue};
+ghost use Rattle.std.specs.Prelude.{◌≡◌, ◌⊎◌, ◌≤◌, ◌<◌, ◌+◌, ◌↔◌, IfOk, IsTrue};
 ghost use Rattle.std.specs.Option.{option_copied};
 ghost use Rattle.vch_model.specs.Lines.{lines_until};
 ghost use Rattle.vch_model.specs.Scenarios.{IsLimited, line_count};
@@ -47,7 +47,7 @@ impl Script {
     ///
     /// # Errors
     ///
-    /// Want of memory alone.
+    /// Out of memory alone.
     pub fn new(alloc: Global, scenario: Scenario) -> Result<Script, NoMemory>
         requires { IsLimited scenario }
         ensures { IfOk result (λ made. made ≡ scenario) }
@@ -66,6 +66,14 @@ impl Script {
         ensures { result.now ≡ self.now }
     {
         &self.scenario
+    }
+
+    /// The version of its text.
+    pub fn version(&self) -> u32
+        ensures version { result ≡ self.now.version }
+        ensures one_of_two { (result ≡ 1) ⊎ (result ≡ 2) }
+    {
+        self.scenario.version
     }
 
     /// The number of calls of all tasks. Constant time.

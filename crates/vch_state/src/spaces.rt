@@ -36,7 +36,7 @@ impl Spaces {
         }
     }
 
-    /// One more task, with its names. The one error is want of memory.
+    /// One more task, with its names. The one error is out of memory.
     pub fn push(&mut self, space: Space) -> Result<(), NoMemory>
         ensures ok { OnOk result (self.new ≡ self.old ++ space ∷ []) }
         ensures err { OnErr result (self.new ≡ self.old) }
@@ -61,7 +61,7 @@ impl Spaces {
         &self.items[task as usize - 1]
     }
 
-    /// Makes room for one new name of a task. The one error is want of memory.
+    /// Makes room for one new name of a task. The one error is out of memory.
     pub fn reserve(&mut self, task: u32) -> Result<(), NoMemory>
         requires task { (0 < task) × (task ≤ length self.old) }
         ensures room { OnOk result (1 ≤ (names_of self.new task).spare) }

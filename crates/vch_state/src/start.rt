@@ -43,7 +43,7 @@ impl Core {
     ///
     /// # Errors
     ///
-    /// Want of memory alone.
+    /// Out of memory alone.
     pub fn start(alloc: Global, scenario: &Scenario) -> Result<Core, NoMemory>
         requires { IsLimited scenario.now }
         ensures scenario { IfOk result (λ core. core.scenario ≡ scenario.now) }

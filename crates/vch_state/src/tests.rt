@@ -5,12 +5,15 @@ ghost use Rattle.vch_model.specs.declared.call.Call.TheVariants as calls;
 use super::*;
 use std::alloc::Global;
 use std::process::Abort;
+use vch_base::limits::USUAL_QUEUE;
 use vch_base::{Flags, Key, Kind, NoMemory};
-use vch_model::{Call, FlagList, Line, LineList, PhaseList, Scenario};
+use vch_model::{Call, FlagList, Line, LineList, PhaseList, QueueList, Scenario};
 
 /// A scenario of one task: a phase with one call, which drops name 1, or without a call, and an empty phase.
 fn scenario(alloc: Global, with_call: bool) -> Result<Scenario, NoMemory>
+    ensures version { IfOk result (λ sc. sc.version ≡ 1) }
     ensures flags { IfOk result (λ sc. sc.flags ≡ no_flags ∷ []) }
+    ensures queues { IfOk result (λ sc. sc.queues ≡ 5 ∷ []) }
     ensures phases { IfOk result (λ sc. sc.phases ≡ (if with_call then record { task = 1; call = calls.GiveUp 1 } ∷ [] else []) ∷ [] ∷ []) }
 {
     let mut flags = FlagList::new(alloc);
@@ -28,7 +31,14 @@ fn scenario(alloc: Global, with_call: bool) -> Result<Scenario, NoMemory>
     let mut phases = PhaseList::new(alloc);
     phases.push(lines)?;
     phases.push(LineList::new(alloc))?;
-    Ok(Scenario { flags, phases })
+    let mut queues = QueueList::new(alloc);
+    queues.push(USUAL_QUEUE)?;
+    Ok(Scenario {
+        version: 1,
+        flags,
+        queues,
+        phases,
+    })
 }
 
 /// A core at the start of such a scenario.

@@ -1,4 +1,4 @@
-use Rattle.vch_state.proofs.RunOn.{may_follow}
+use Rattle.vch_state.proofs.CallerLemmas.{may_follow}
 use Rattle.vch_core.proofs.stepped.event.Goals as goal
 
 pub returns-then-is_some : goal.returns-then-is_some

@@ -18,10 +18,10 @@ pub make-requires-clause-flying : goal.make-requires-clause-flying
 make-requires-clause-flying c = subst (λ n. n ≤ 64) (sym (c.flying-flying.ensures ∙ ap (λ n. length (receipts_in keys.User (take n c.args.parts.now.frames))) (c.len-tasks.ensures ∙ ap (λ (s : Scenario). length s.flags) c.scenario.ensures))) (flying_few c.args.parts.now c.requires.reached)
 
 pub make-requires-clause-there : goal.make-requires-clause-there
-make-requires-clause-there c = asked_there c.args.parts.now c.args.task c.requires.task c.requires.next c.requires.idle c.requires.reached c.read_question-asked.result c.read_question-asked.ensures
+make-requires-clause-there c = asked_there c.args.parts.now c.args.task c.requires.task c.requires.next c.requires.idle c.requires.reached c.read_question-asked.result c.read_question-asked.ensures c.requires.built
 
 pub make-requires-clause-live : goal.make-requires-clause-live
-make-requires-clause-live c = asked_live c.args.parts.now c.args.task c.requires.task c.requires.next c.requires.idle c.requires.reached c.read_question-asked.result c.read_question-asked.ensures
+make-requires-clause-live c = asked_live c.args.parts.now c.args.task c.requires.task c.requires.next c.requires.idle c.requires.reached c.read_question-asked.result c.read_question-asked.ensures c.requires.built
 
 pub make-requires-clause-handles : goal.make-requires-clause-handles
 make-requires-clause-handles c = slots_few c.args.parts.now c.requires.reached
@@ -30,6 +30,6 @@ pub make-requires-clause-counts : goal.make-requires-clause-counts
 make-requires-clause-counts c = counts_few c.args.parts.now c.requires.reached
 
 pub returns : goal.returns
-returns c = ask_answers c.args.parts.now c.args.task c.requires.task c.requires.next c.requires.idle c.requires.reached c.read_question-asked.result c.read_question-asked.ensures
+returns c = ask_answers c.args.parts.now c.args.task c.requires.task c.requires.next c.requires.idle c.requires.reached c.read_question-asked.result c.read_question-asked.ensures c.requires.built
     c.content_at-content.result.now c.content_at-content.ensures c.flying-flying.result c.len-tasks.result c.flying-flying.ensures (c.len-tasks.ensures ∙ ap (λ (s : Scenario). length s.flags) c.scenario.ensures) c.know_rules.ensures
     c.make.result c.make.new.entries c.make.new.manager c.make.ensures.call c.make.ensures.entries c.make.ensures.stands

@@ -1,7 +1,7 @@
 use Rattle.std.proofs.Common.{sym, subst}
 use Rattle.vch_base.specs.declared.kind.Kind.TheVariants as kinds
 use Rattle.vch_state.specs.Reached.{MayFollow}
-use Rattle.vch_state.proofs.RunOn.{may_follow}
+use Rattle.vch_state.proofs.CallerLemmas.{may_follow}
 use Rattle.vch_create.proofs.events.call_event.Goals as goal
 
 pub returns-in-Begin : goal.returns-in-Begin

@@ -22,4 +22,4 @@ read_record-requires-clause-inside c =
     (sym (ap (λ (w : Working). nth_call c.args.parts.now.scenario c.args.task w.begun) c.at-working.ensures) ∙ (sym c.call.ensures ∙ (ap option_copied c.in-Some-Create.is ∙ ap Some c.in-Some-Create.field-0-is))))
 
 pub returns-clause-other : goal.returns-clause-other
-returns-clause-other c = own_code_of _ _ _ c.read_record.result c.read_record.ensures
+returns-clause-other c = own_code_of _ _ _ _ c.read_record.result c.read_record.ensures

@@ -7,5 +7,5 @@ use Rattle.vch_plain.proofs.change.drop_name.Goals as goal
 
 pub returns-clause-state : goal.returns-clause-state
 returns-clause-state c = λ counted.
-    changed (λ (x : Tasked). record x { names = naming.one_less x.names c.args.name }) c.args.plain.now counted c.args.task c.index_mut.result.now _ (let a = c.requires.task.0 in let b = c.requires.task.1 in omega (arith, a, b)) c.index_mut.ensures.value
+    changed (λ (x : Tasked). record x { names = naming.one_less x.names c.args.name }) c.args.plain.now counted c.args.task c.index_mut.result.now _ c.requires.task.0 (let a = c.requires.task.0 in let b = c.requires.task.1 in omega (arith, a, b)) c.index_mut.ensures.value
     (ap (λ names. record (task_of c.index_mut.result.now) { names = names }) c.one_less.ensures)

@@ -13,7 +13,7 @@ returns-then-asks_user c =
     let x : Read (first_of (drop c.args.at c.args.bytes.now)) (length c.args.bytes.now) (record { key = c.in-One.key; command = c.in-One.command; previous = c.in-One.previous; content = c.in-One.content.now }) c.in-One.next =
     read_one _ _ c.next_recipe.result _ _ _ _ _ c.next_recipe.ensures c.in-One.is in
     let other = c.requires.user [] (drop c.args.at c.args.bytes.now) refl _ x.rest x.first in
-    let a = ap (λ (ns : List Named). asks (known_name ns) (record { key = c.in-One.key; command = c.in-One.command; previous = c.in-One.previous; content = c.in-One.content.now })) (sym c.names.ensures)
+    let a = ap (λ (ns : List Named). asks 1 (known_name ns) (record { key = c.in-One.key; command = c.in-One.command; previous = c.in-One.previous; content = c.in-One.content.now })) (sym c.names.ensures)
     ∙ (sym (c.asks_user.ensures.asks c.in-One.content.now other) ∙ c.if-asks_user.true) in
     if_ok c.ask_record.result c.ask_record.ensures (λ went i.
     steps_asked c.args.task c.args.bytes.now c.args.plain.now c.args.at c.args.handle _ x.rest c.in-One.next x.first x.place c.requires.inside c.requires.user went c.ask_record.new.plain a (c.asks_user.ensures.user c.if-asks_user.true) i)
@@ -23,7 +23,7 @@ returns-else-asks_user c =
     let x : Read (first_of (drop c.args.at c.args.bytes.now)) (length c.args.bytes.now) (record { key = c.in-One.key; command = c.in-One.command; previous = c.in-One.previous; content = c.in-One.content.now }) c.in-One.next =
     read_one _ _ c.next_recipe.result _ _ _ _ _ c.next_recipe.ensures c.in-One.is in
     let other = c.requires.user [] (drop c.args.at c.args.bytes.now) refl _ x.rest x.first in
-    let a = ap (λ (ns : List Named). asks (known_name ns) (record { key = c.in-One.key; command = c.in-One.command; previous = c.in-One.previous; content = c.in-One.content.now })) (sym c.names.ensures)
+    let a = ap (λ (ns : List Named). asks 1 (known_name ns) (record { key = c.in-One.key; command = c.in-One.command; previous = c.in-One.previous; content = c.in-One.content.now })) (sym c.names.ensures)
     ∙ (sym (c.asks_user.ensures.asks c.in-One.content.now other) ∙ c.if-asks_user.false) in
     if_ok c.work_record.result c.work_record.ensures (λ went i.
     steps_worked c.args.task c.args.bytes.now c.args.plain.now c.args.at c.args.handle _ x.rest c.in-One.next x.first x.place c.requires.inside c.requires.user went c.work_record.new.plain a i)

@@ -10,7 +10,7 @@ returns-in-Ok c = (
   refl,
   refl,
   λ rest.
-      ap (λ names. work_first names (One (record { key = c.args.key; command = c.args.command; previous = c.args.previous; content = c.args.content.now }) rest) (user_voucher c.args.handle)) (sym c.names.ensures)
+      ap (λ names. work_first 1 names (One (record { key = c.args.key; command = c.args.command; previous = c.args.previous; content = c.args.content.now }) rest) (user_voucher c.args.handle)) (sym c.names.ensures)
       ∙ (sym (c.work.ensures rest) ∙ ap worked_of c.in-Ok.is),
 )
 
@@ -18,7 +18,7 @@ pub returns-in_ok-refuse-in-Err : goal.returns-in_ok-refuse-in-Err
 returns-in_ok-refuse-in-Err c = (
   c.in-Err.code.number,
   (λ rest.
-      ap (λ names. work_first names (One (record { key = c.args.key; command = c.args.command; previous = c.args.previous; content = c.args.content.now }) rest) (user_voucher c.args.handle)) (sym c.names.ensures)
+      ap (λ names. work_first 1 names (One (record { key = c.args.key; command = c.args.command; previous = c.args.previous; content = c.args.content.now }) rest) (user_voucher c.args.handle)) (sym c.names.ensures)
       ∙ (sym (c.work.ensures rest) ∙ ap worked_of c.in-Err.is)),
   c.in_ok-refuse-in-Err.ensures,
 )

@@ -1,0 +1,18 @@
+-- The item of a task stands one place before its number.
+use Rattle.std.proofs.Common.{◌≡◌, refl, ℕ, zero, suc, ◌-◌, ◌≤◌, List, arith, get_or}
+use Rattle.std.proofs.Math.ListN.{set}
+use Rattle.vch_base.specs.Tasks.{at_task, set_task}
+
+pub no_number : 1 ≤ 0 → ⊥
+no_number e = omega arith
+
+back : (t : ℕ) → suc t - 1 ≡ t
+back t = omega arith
+
+pub at_place : {A : Type 0} (items : List A) (t : ℕ) (d : A) → 1 ≤ t → at_task items t d ≡ get_or items (t - 1) d
+at_place items zero d p = absurd (no_number p)
+at_place items (suc t) d p = rw (back t) refl
+
+pub set_place : {A : Type 0} (items : List A) (t : ℕ) (x : A) → 1 ≤ t → set_task items t x ≡ set items (t - 1) x
+set_place items zero x p = absurd (no_number p)
+set_place items (suc t) x p = rw (back t) refl
