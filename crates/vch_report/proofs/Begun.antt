@@ -6,8 +6,7 @@ use Rattle.vch_model.specs.declared.total.Total.{Total}
 use Rattle.vch_model.specs.Text.{newline, entry_line, total_lines, last_lines, counts_text, report_text}
 use Rattle.vch_model.specs.TextLines.{split_of, with_line_before, with_byte}
 use Rattle.vch_text.specs.Words.{joined}
-use Rattle.vch_text.proofs.Splits.{split_joined}
-use Rattle.vch_text.proofs.Plain.{split_line}
+use Rattle.vch_text.proofs.CallerLemmas.{split_joined, split_line}
 use Rattle.vch_report.specs.declared.item.Item.{Item}
 use Rattle.vch_report.specs.declared.item.Item.TheVariants as items
 use Rattle.vch_report.specs.declared.report.Report.{Report}
@@ -15,8 +14,10 @@ use Rattle.vch_report.specs.WellFormed.{IsWellFormed}
 use Rattle.vch_report.specs.Items.{item_text}
 use Rattle.vch_report.specs.Faults.{IsReport, lines_text, IsBegun}
 use Rattle.vch_report.specs.Reading.{Read, nothing, whole}
-use Rattle.vch_report.proofs.ItemLines.{IsItem, item_low}
-use Rattle.vch_report.proofs.Runs.{step_items, task_items, items_read, Counted, item_lines, lines_append, go, go_told, items_of, all_items, go_whole, Ended, ended}
+use Rattle.vch_report.proofs.ItemTold.{IsItem}
+use Rattle.vch_report.proofs.ItemLines.{item_low}
+use Rattle.vch_report.proofs.ItemsRead.{step_items, task_items, items_read, Counted}
+use Rattle.vch_report.proofs.Runs.{item_lines, lines_append, go, go_told, items_of, all_items, go_whole, Ended, ended}
 
 -- ---- the text of a report has the lines of its items
 
@@ -36,11 +37,11 @@ tasks_text t (x ∷ ts) = ap (λ l. (item_text (items.Task t x) ++ newline) ++ l
 last_text : (v w : ℕ) → lines_text (item_lines (items.Counts v w ∷ items.End ∷ [])) ≡ last_lines v w
 last_text v w = sym (append_assoc (counts_text v w ++ newline) (codes "end") newline)
 
-pub whole_text : (es : List Entry) (ts : List Total) (v w : ℕ)
-    → report_text es ts v w ≡ lines_text (item_lines (items_of es ts v w))
+pub whole_text : (z : ℕ) (es : List Entry) (ts : List Total) (v w : ℕ)
+    → report_text z es ts v w ≡ lines_text (item_lines (items_of z es ts v w))
 unfolding report_text
-whole_text es ts v w =
-    let head = codes "report 1" ++ newline in
+whole_text z es ts v w =
+    let head = item_text (items.Title z) ++ newline in
     let steps = step_items es in
     let tasks = task_items 1 ts in
     let last = items.Counts v w ∷ items.End ∷ [] in
@@ -106,9 +107,10 @@ cut ls rest = (ls, rest)
 
 -- ---- a report's text
 
-pub counted : (r : Report) → IsWellFormed r → Counted r.history.entries r.totals r.vouchers r.values
+pub counted : (r : Report) → IsWellFormed r → Counted r.version r.history.entries r.totals r.vouchers r.values
 counted r h = record {
   listed = record {
+    known = h.version;
     entries = h.entries;
     totals = h.totals;
     some = h.some_task;
@@ -118,8 +120,9 @@ counted r h = record {
   values = h.values;
 }
 
-pub well_formed : (r : Report) → Counted r.history.entries r.totals r.vouchers r.values → IsWellFormed r
+pub well_formed : (r : Report) → Counted r.version r.history.entries r.totals r.vouchers r.values → IsWellFormed r
 well_formed r c = record {
+  version = c.listed.known;
   entries = c.listed.entries;
   totals = c.listed.totals;
   some_task = c.listed.some;
@@ -129,7 +132,7 @@ well_formed r c = record {
 }
 
 abbrev pub lines_of : Report → List (List ℕ)
-lines_of r = item_lines (items_of r.history.entries r.totals r.vouchers r.values)
+lines_of r = item_lines (items_of r.version r.history.entries r.totals r.vouchers r.values)
 
 split_nil : split_of [] ≡ cut [] []
 unfolding split_of
@@ -137,15 +140,15 @@ split_nil = refl
 
 pub report_split : (text : List ℕ) (r : Report) → IsReport text r → split_of text ≡ cut (lines_of r) []
 report_split text r h =
-    let is = items_of r.history.entries r.totals r.vouchers r.values in
-    let all = all_items r.history.entries r.totals r.vouchers r.values (counted r h.0) in
-    let e : text ≡ lines_text (lines_of r) ++ [] = h.1 ∙ whole_text r.history.entries r.totals r.vouchers r.values
+    let is = items_of r.version r.history.entries r.totals r.vouchers r.values in
+    let all = all_items r.version r.history.entries r.totals r.vouchers r.values (counted r h.0) in
+    let e : text ≡ lines_text (lines_of r) ++ [] = h.1 ∙ whole_text r.version r.history.entries r.totals r.vouchers r.values
     ∙ sym (append-nil (lines_text (lines_of r))) in
     ap split_of e ∙ split_lines (lines_of r) [] (items_ones is all) ∙ ap (onto (lines_of r)) split_nil
     ∙ ap (λ l. cut l []) (append-nil (lines_of r))
 
 pub report_goes : (r : Report) → IsWellFormed r → go nothing (lines_of r) ≡ Some (whole r)
-report_goes r h = go_whole r.history.entries r.totals r.vouchers r.values (counted r h)
+report_goes r h = go_whole r.version r.history.entries r.totals r.vouchers r.values (counted r h)
 
 -- what was read to its end is the report's text
 pub whole_report : (text : List ℕ) (r : Report) (lines : List (List ℕ)) → split_of text ≡ cut lines []
@@ -156,18 +159,18 @@ whole_report text r lines e g =
     ∙ ap (λ (p : List (List ℕ) × List ℕ). joined p) e in (
       well_formed r w.good,
       joins ∙ append-nil (lines_text lines) ∙ ap (λ l. lines_text l) (sym w.spelled)
-          ∙ sym (whole_text r.history.entries r.totals r.vouchers r.values),
+          ∙ sym (whole_text r.version r.history.entries r.totals r.vouchers r.values),
     )
 
 -- ---- lines that lead to something begin a report
 
-report_with : List Entry → List Total → ℕ → ℕ → Report
-report_with es ts v w = record { history = record { entries = es; spare = 0 }; totals = ts; vouchers = v; values = w }
+report_with : ℕ → List Entry → List Total → ℕ → ℕ → Report
+report_with z es ts v w = record { version = z; history = record { entries = es; spare = 0 }; totals = ts; vouchers = v; values = w }
 
 begun_by : (before : List (List ℕ)) (d : Read) → item_lines (items_read d) ≡ before → Ended d → IsBegun before
 unfolding report_with
 begun_by before d e x =
-    let r = report_with x.entries x.totals x.vouchers x.values in
+    let r = report_with x.version x.entries x.totals x.vouchers x.values in
     let more = lines_text (item_lines x.more) in
     let lines : lines_of r ≡ before ++ item_lines x.more = ap item_lines x.items
     ∙ lines_append (items_read d) x.more ∙ ap (λ l. l ++ item_lines x.more) e in (
@@ -176,7 +179,7 @@ begun_by before d e x =
       (
         well_formed r x.good,
         sym (text_append before (item_lines x.more))
-            ∙ ap (λ l. lines_text l) (sym lines) ∙ sym (whole_text x.entries x.totals x.vouchers x.values),
+            ∙ ap (λ l. lines_text l) (sym lines) ∙ sym (whole_text x.version x.entries x.totals x.vouchers x.values),
       ),
     )
 

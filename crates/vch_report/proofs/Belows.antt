@@ -4,11 +4,9 @@ use Rattle.std.proofs.lemmas.Grind.{common_steps}
 use Rattle.std.proofs.lemmas.Bool.{lt-ltb}
 use Rattle.std.specs.Fmt.{decimal}
 use Rattle.vch_text.specs.Numbers.{number_of}
-use Rattle.vch_text.proofs.Told.{Told, told_bind, told_test}
-use Rattle.vch_text.proofs.NumbersBack.{IsRead, number_told, number_again}
-use Rattle.vch_text.proofs.Decimals.{numeral_decimal, numeral_is}
+use Rattle.vch_text.proofs.CallerLemmas.{Told, told_bind, told_test, IsRead, number_told, number_again, numeral_decimal, numeral_is}
 use Rattle.vch_report.specs.Numerals.{below, ordinal}
-use Rattle.vch_report.specs.WellFormed.{IsNumber}
+use Rattle.vch_model.specs.WellFormed.{IsNumber}
 
 -- the word spells this number, which is below the top
 pub record IsBelow (top : ℕ) (w : List ℕ) (n : ℕ) : Type 0 where

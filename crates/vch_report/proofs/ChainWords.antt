@@ -7,12 +7,10 @@ use Rattle.std.proofs.lemmas.List.Splits.{join_with_byte-slice_split, slice_spli
 use Rattle.std.specs.List.{AllByRecursion, All, join_with_byte}
 use Rattle.std.specs.Fmt.{decimal}
 use Rattle.vch_model.specs.Grammar.{IsDecimal}
-use Rattle.vch_text.proofs.Told.{Told, told_bind, told_test}
-use Rattle.vch_text.proofs.Decimals.{decimal_numeral}
-use Rattle.vch_text.proofs.Plain.{IsPlain, decimal_plain}
+use Rattle.vch_text.proofs.CallerLemmas.{Told, told_bind, told_test, decimal_numeral, IsPlain, decimal_plain}
 use Rattle.vch_report.specs.Numerals.{ordinal}
 use Rattle.vch_report.specs.Values.{parts_of, ordinals, chain_of}
-use Rattle.vch_report.specs.WellFormed.{IsNumber}
+use Rattle.vch_model.specs.WellFormed.{IsNumber}
 use Rattle.vch_report.proofs.Belows.{IsOrdinal, ordinal_told, ordinal_again}
 
 abbrev pub chain_text : List ℕ → List ℕ

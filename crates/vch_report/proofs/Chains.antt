@@ -5,7 +5,7 @@ use Rattle.std.proofs.lemmas.Bool.{le-leb}
 use Rattle.std.specs.List.{onto_first}
 use Rattle.vch_text.specs.Reading.{◌>>=◌}
 use Rattle.vch_text.specs.Words.{front_of, in_front}
-use Rattle.vch_text.proofs.Splits.{front_whole}
+use Rattle.vch_text.proofs.CallerLemmas.{front_whole}
 use Rattle.vch_report.specs.Numerals.{ordinal}
 use Rattle.vch_report.specs.Values.{parts_of, ordinals, chain_of}
 

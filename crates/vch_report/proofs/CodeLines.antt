@@ -1,19 +1,18 @@
 -- Words of a line and codes of replies, both ways.
-use Rattle.std.proofs.Common.{◌≡◌, ℕ, ◌^◌, ◌<◌, ℤ, pos, negsuc, Bool, true, false, ◌&&◌, leb, List, [], ◌∷◌, length, slice_index, Some, refl, sym, ap, subst, ◌∙◌, arith, codes, inl, inr}
+use Rattle.std.proofs.Common.{◌≡◌, ℕ, ◌^◌, ◌<◌, ℤ, Bool, true, false, ◌&&◌, leb, List, [], ◌∷◌, length, slice_index, Some, refl, sym, ap, subst, ◌∙◌, arith, codes, inl, inr}
 use Rattle.std.proofs.lemmas.Grind.{common_steps}
 use Rattle.std.specs.List.{AllByRecursion}
 use Rattle.std.specs.Fmt.{decimal, signed_decimal}
+use Rattle.vch_base.specs.declared.codes.TheConstants.{KERN_INVALID_ARGUMENT, KERN_FAILURE, KERN_RESOURCE_SHORTAGE, KERN_NO_ACCESS, KERN_INVALID_NAME, KERN_INVALID_CAPABILITY, MIG_ARRAY_TOO_LARGE, MACH_SEND_INVALID_DEST, MACH_SEND_TIMED_OUT, MACH_SEND_INVALID_VOUCHER, MACH_RCV_TIMED_OUT}
 use Rattle.vch_base.specs.declared.fault.Code.{Code}
 use Rattle.vch_model.specs.declared.call.Word.{Word}
 use Rattle.vch_model.specs.declared.call.Word.TheVariants as words
 use Rattle.vch_model.specs.Text.{word_text}
 use Rattle.vch_model.specs.Grammar.{IsDecimal, value_after}
 use Rattle.vch_text.specs.Words.{is_word}
-use Rattle.vch_text.proofs.Told.{Told, told_test, both, word_true}
-use Rattle.vch_text.proofs.Plain.{above}
-use Rattle.vch_text.proofs.Decimals.{numeral_decimal}
+use Rattle.vch_text.proofs.CallerLemmas.{Told, told_test, both, word_true, above, numeral_decimal}
 use Rattle.vch_report.specs.Replies.{verb_of, code_of, coded}
-use Rattle.vch_report.specs.WellFormed.{refusals, IsOneOf, IsRefusal}
+use Rattle.vch_model.specs.WellFormed.{refusals, IsOneOf, IsRefusal}
 
 -- ---- words and codes
 
@@ -32,7 +31,8 @@ verb_told w =
     (λ f. told_test (λ v. w ≡ word_text v) (is_word w (codes "assertions")) _ _
     (λ t. word_true w (codes "assertions") t)
     (λ f. told_test (λ v. w ≡ word_text v) (is_word w (codes "live")) _ _ (λ t. word_true w (codes "live") t)
-    (λ f. tt)))))))))))
+    (λ f. told_test (λ v. w ≡ word_text v) (is_word w (codes "exit")) _ _ (λ t. word_true w (codes "exit") t)
+    (λ f. tt))))))))))))
 
 pub verb_again : (v : Word) → verb_of (word_text v) ≡ Some v
 unfolding verb_of is_word
@@ -47,6 +47,7 @@ verb_again words.Charge = refl
 verb_again words.Ledger = refl
 verb_again words.Assertions = refl
 verb_again words.Live = refl
+verb_again words.Exit = refl
 
 pub verb_plain : (v : Word) → above (word_text v) ≡ true
 verb_plain words.Create = refl
@@ -60,6 +61,7 @@ verb_plain words.Charge = refl
 verb_plain words.Ledger = refl
 verb_plain words.Assertions = refl
 verb_plain words.Live = refl
+verb_plain words.Exit = refl
 
 -- the digits of a text in quotes, which computes
 abbrev is_decimal : List ℕ → Bool
@@ -91,7 +93,7 @@ pub record CodeWord (w : List ℕ) (n : ℤ) : Type 0 where
   pub plain : above w ≡ true
   pub other : is_word w (codes "0") ≡ false
 
-code_4 : CodeWord (codes "4") (pos 4)
+code_4 : CodeWord (codes "4") KERN_INVALID_ARGUMENT
 unfolding code_of is_word
 code_4 = record {
   word = literal (codes "4") 4 refl (omega arith) (omega arith) refl (omega arith);
@@ -100,7 +102,7 @@ code_4 = record {
   other = refl;
 }
 
-code_5 : CodeWord (codes "5") (pos 5)
+code_5 : CodeWord (codes "5") KERN_FAILURE
 unfolding code_of is_word
 code_5 = record {
   word = literal (codes "5") 5 refl (omega arith) (omega arith) refl (omega arith);
@@ -109,7 +111,7 @@ code_5 = record {
   other = refl;
 }
 
-code_6 : CodeWord (codes "6") (pos 6)
+code_6 : CodeWord (codes "6") KERN_RESOURCE_SHORTAGE
 unfolding code_of is_word
 code_6 = record {
   word = literal (codes "6") 6 refl (omega arith) (omega arith) refl (omega arith);
@@ -118,7 +120,7 @@ code_6 = record {
   other = refl;
 }
 
-code_8 : CodeWord (codes "8") (pos 8)
+code_8 : CodeWord (codes "8") KERN_NO_ACCESS
 unfolding code_of is_word
 code_8 = record {
   word = literal (codes "8") 8 refl (omega arith) (omega arith) refl (omega arith);
@@ -127,7 +129,7 @@ code_8 = record {
   other = refl;
 }
 
-code_15 : CodeWord (codes "15") (pos 15)
+code_15 : CodeWord (codes "15") KERN_INVALID_NAME
 unfolding code_of is_word
 code_15 = record {
   word = literal (codes "15") 15 refl (omega arith) (omega arith) refl (omega arith);
@@ -136,7 +138,7 @@ code_15 = record {
   other = refl;
 }
 
-code_20 : CodeWord (codes "20") (pos 20)
+code_20 : CodeWord (codes "20") KERN_INVALID_CAPABILITY
 unfolding code_of is_word
 code_20 = record {
   word = literal (codes "20") 20 refl (omega arith) (omega arith) refl (omega arith);
@@ -145,7 +147,7 @@ code_20 = record {
   other = refl;
 }
 
-code_array : CodeWord (codes "-307") (negsuc 306)
+code_array : CodeWord (codes "-307") MIG_ARRAY_TOO_LARGE
 unfolding code_of is_word
 code_array = record {
   word = ap
@@ -155,7 +157,7 @@ code_array = record {
   other = refl;
 }
 
-code_task : CodeWord (codes "268435459") (pos 268435459)
+code_task : CodeWord (codes "268435459") MACH_SEND_INVALID_DEST
 unfolding code_of is_word
 code_task = record {
   word = literal (codes "268435459") 268435459 refl (omega arith) (omega arith) refl
@@ -165,7 +167,7 @@ code_task = record {
   other = refl;
 }
 
-code_full : CodeWord (codes "268435460") (pos 268435460)
+code_full : CodeWord (codes "268435460") MACH_SEND_TIMED_OUT
 unfolding code_of is_word
 code_full = record {
   word = literal (codes "268435460") 268435460 refl (omega arith) (omega arith) refl
@@ -175,7 +177,7 @@ code_full = record {
   other = refl;
 }
 
-code_voucher : CodeWord (codes "268435461") (pos 268435461)
+code_voucher : CodeWord (codes "268435461") MACH_SEND_INVALID_VOUCHER
 unfolding code_of is_word
 code_voucher = record {
   word = literal (codes "268435461") 268435461 refl (omega arith) (omega arith) refl
@@ -185,7 +187,7 @@ code_voucher = record {
   other = refl;
 }
 
-code_empty : CodeWord (codes "268451843") (pos 268451843)
+code_empty : CodeWord (codes "268451843") MACH_RCV_TIMED_OUT
 unfolding code_of is_word
 code_empty = record {
   word = literal (codes "268451843") 268451843 refl (omega arith) (omega arith) refl
@@ -252,28 +254,28 @@ code_at w v n c r t = record { word = word_true w v t ∙ c.word; refusal = r }
 pub code_told : (w : List ℕ) → Told (λ c. IsCode w c) (code_of w)
 unfolding code_of
 code_told w =
-    told_test (λ c. IsCode w c) (is_word w (codes "4")) _ _ (λ t. code_at w (codes "4") (pos 4) code_4 (inl refl) t)
+    told_test (λ c. IsCode w c) (is_word w (codes "4")) _ _ (λ t. code_at w (codes "4") KERN_INVALID_ARGUMENT code_4 (inl refl) t)
     (λ f. told_test (λ c. IsCode w c) (is_word w (codes "5")) _ _
-    (λ t. code_at w (codes "5") (pos 5) code_5 (inr (inl refl)) t)
+    (λ t. code_at w (codes "5") KERN_FAILURE code_5 (inr (inl refl)) t)
     (λ f. told_test (λ c. IsCode w c) (is_word w (codes "6")) _ _
-    (λ t. code_at w (codes "6") (pos 6) code_6 (inr (inr (inl refl))) t)
+    (λ t. code_at w (codes "6") KERN_RESOURCE_SHORTAGE code_6 (inr (inr (inl refl))) t)
     (λ f. told_test (λ c. IsCode w c) (is_word w (codes "8")) _ _
-    (λ t. code_at w (codes "8") (pos 8) code_8 (inr (inr (inr (inl refl)))) t)
+    (λ t. code_at w (codes "8") KERN_NO_ACCESS code_8 (inr (inr (inr (inl refl)))) t)
     (λ f. told_test (λ c. IsCode w c) (is_word w (codes "15")) _ _
-    (λ t. code_at w (codes "15") (pos 15) code_15 (inr (inr (inr (inr (inl refl))))) t)
+    (λ t. code_at w (codes "15") KERN_INVALID_NAME code_15 (inr (inr (inr (inr (inl refl))))) t)
     (λ f. told_test (λ c. IsCode w c) (is_word w (codes "20")) _ _
-    (λ t. code_at w (codes "20") (pos 20) code_20 (inr (inr (inr (inr (inr (inl refl)))))) t)
+    (λ t. code_at w (codes "20") KERN_INVALID_CAPABILITY code_20 (inr (inr (inr (inr (inr (inl refl)))))) t)
     (λ f. told_test (λ c. IsCode w c) (is_word w (codes "-307")) _ _
-    (λ t. code_at w (codes "-307") (negsuc 306) code_array (inr (inr (inr (inr (inr (inr (inl refl))))))) t)
+    (λ t. code_at w (codes "-307") MIG_ARRAY_TOO_LARGE code_array (inr (inr (inr (inr (inr (inr (inl refl))))))) t)
     (λ f. told_test (λ c. IsCode w c) (is_word w (codes "268435459")) _ _
-    (λ t. code_at w (codes "268435459") (pos 268435459) code_task (inr (inr (inr (inr (inr (inr (inr
+    (λ t. code_at w (codes "268435459") MACH_SEND_INVALID_DEST code_task (inr (inr (inr (inr (inr (inr (inr
     (inl refl)))))))) t)
     (λ f. told_test (λ c. IsCode w c) (is_word w (codes "268435460")) _ _
-    (λ t. code_at w (codes "268435460") (pos 268435460) code_full (inr (inr (inr (inr (inr (inr (inr (inr
+    (λ t. code_at w (codes "268435460") MACH_SEND_TIMED_OUT code_full (inr (inr (inr (inr (inr (inr (inr (inr
     (inl refl))))))))) t)
     (λ f. told_test (λ c. IsCode w c) (is_word w (codes "268435461")) _ _
-    (λ t. code_at w (codes "268435461") (pos 268435461) code_voucher (inr (inr (inr (inr (inr (inr (inr (inr
+    (λ t. code_at w (codes "268435461") MACH_SEND_INVALID_VOUCHER code_voucher (inr (inr (inr (inr (inr (inr (inr (inr
     (inr (inl refl)))))))))) t)
     (λ f. told_test (λ c. IsCode w c) (is_word w (codes "268451843")) _ _
-    (λ t. code_at w (codes "268451843") (pos 268451843) code_empty (inr (inr (inr (inr (inr (inr (inr (inr (inr
+    (λ t. code_at w (codes "268451843") MACH_RCV_TIMED_OUT code_empty (inr (inr (inr (inr (inr (inr (inr (inr (inr
     (inr (inl refl))))))))))) t) (λ f. tt)))))))))))

@@ -4,12 +4,13 @@ use Rattle.std.specs.Prelude.{slice_get}
 use Rattle.std.specs.List.{AllByRecursion}
 use Rattle.vch_model.specs.Rows.{Entries}
 use Rattle.vch_model.specs.declared.entry.Entry.{Entry}
-use Rattle.vch_report.specs.OfCore.{HasBytes, Making, no_total, no_totals}
+use Rattle.vch_legal.specs.Reports.{IsByteEntry}
+use Rattle.vch_report.specs.OfCore.{no_total, no_totals}
 
 -- so many entries were copied, and there is room for the others
 pub record Copied (entries : List Entry) (i : ℕ) (made : Entries) : Type 0 where
   pub same : made.entries ≡ take i entries
-  pub bytes : AllByRecursion (Making HasBytes) made.entries
+  pub bytes : AllByRecursion IsByteEntry made.entries
   pub room : length entries ≤ made.spare + i
 
 one_more : (i : ℕ) → suc i ≡ i + 1
@@ -29,11 +30,11 @@ all_more : (p : Entry → Type 0) (xs : List Entry) (x : Entry) → AllByRecursi
 all_more p [] x a b = (b, tt)
 all_more p (y ∷ xs) x a b = (a.0, all_more p xs x a.1 b)
 
-pub copied_next : (entries : List Entry) (i : ℕ) (made new : Entries) (x y : Entry) → Copied entries i made → slice_get entries i ≡ Some x → y ≡ x → Making HasBytes y
+pub copied_next : (entries : List Entry) (i : ℕ) (made new : Entries) (x y : Entry) → Copied entries i made → slice_get entries i ≡ Some x → y ≡ x → IsByteEntry y
     → new.entries ≡ made.entries ++ y ∷ [] → new.spare + 1 ≡ made.spare → Copied entries (i + 1) new
 copied_next entries i made new x y c e same bytes q room = record {
   same = q ∙ rw (c.same, same) (sym (take_suc entries i x e)) ∙ ap (λ n. take n entries) (one_more i);
-  bytes = subst (AllByRecursion (Making HasBytes)) (sym q) (all_more (Making HasBytes) made.entries y c.bytes bytes);
+  bytes = subst (AllByRecursion IsByteEntry) (sym q) (all_more IsByteEntry made.entries y c.bytes bytes);
   room = let r : length entries ≤ made.spare + i = c.room in omega (arith, r, room);
 }
 

@@ -25,15 +25,14 @@ use Rattle.vch_model.specs.Text.{totals_from, totals_of}
 use Rattle.vch_model.specs.Totals.{held, out, ledger, weight, tasks_of, last_is, first_is, is_done}
 use Rattle.vch_machine.specs.State.{Place, Living, Machine, living_at, alive_of, seen}
 use Rattle.vch_legal.specs.Conserved.{each_task, accepted, charge_in, dues}
-use Rattle.vch_legal.proofs.Ledgers.{charges_are_kept}
-use Rattle.vch_legal.proofs.SeenValues.{Each, each_of, at_most_once}
+use Rattle.vch_legal.proofs.CallerLemmas.{charges_are_kept, Each, each_of, at_most_once}
 use Rattle.vch_state.specs.declared.parts.Parts.{Parts}
 use Rattle.vch_model.specs.UserOnly.{IsUserCall, IsUserOnly}
 use Rattle.vch_state.specs.Stands.{StandsFor}
 use Rattle.vch_state.specs.Reached.{plain_of}
-use Rattle.vch_state.proofs.OnlyUser.{live_is_default}
+use Rattle.vch_state.proofs.CallerLemmas.{live_is_default}
 use Rattle.vch_report.specs.OfCore.{no_total, no_totals}
-use Rattle.vch_report.proofs.ScenarioLines.{answered}
+use Rattle.vch_legal.proofs.CallerLemmas.{line_has}
 
 -- No task holds an assertion, where no live value is a list.
 
@@ -59,6 +58,7 @@ user_plain keys.User (values.Task t) e b = absurd b
 user_plain keys.User (values.Account holder merchant) e b = absurd b
 user_plain keys.Importance x e b = absurd (cc)
 user_plain keys.Bank x e b = absurd (cc)
+user_plain keys.Test x e b = absurd (cc)
 
 default_plain : (x : Value) → is_default x ≡ true → tasks_of x ≡ []
 default_plain (values.User bytes) e = refl
@@ -77,10 +77,14 @@ module _ (p : Parts) (m : Machine) (s : StandsFor p.scenario (keys.User ∷ []) 
       user_bank : (k : Key) → k ≡ keys.Bank → k ≡ keys.User → ⊥
       user_bank k e f = let g : keys.Bank ≡ keys.User = sym e ∙ f in cc
 
+      user_test : (k : Key) → k ≡ keys.Test → k ≡ keys.User → ⊥
+      user_test k e f = let g : keys.Test ≡ keys.User = sym e ∙ f in cc
+
       by : (k : Key) → q.key ≡ k → tasks_of a.value ≡ []
       by keys.User h = user_plain q.key a.value h (s.fits.values q a e).belongs
       by keys.Importance h = default_plain a.value (live_is_default p q (user_other q.key h) p.scenario m s.shape a s.fits e)
       by keys.Bank h = default_plain a.value (live_is_default p q (user_bank q.key h) p.scenario m s.shape a s.fits e)
+      by keys.Test h = default_plain a.value (live_is_default p q (user_test q.key h) p.scenario m s.shape a s.fits e)
 
   all_plain : Each Plain m.live
   all_plain = each_of Plain m.live (at_most_once m s.fits.each_once) one_plain
@@ -110,10 +114,11 @@ module _ (sc : Scenario) (limited : IsLimited sc) (built : IsUserOnly sc) where
   no_charge l calls.Ledger e h = absurd h
   no_charge l calls.Assertions e h = absurd h
   no_charge l calls.Live e h = absurd h
+  no_charge l calls.Exit e h = absurd h
 
   line_charge : (t n : ℕ) (o : Option (ℕ × Line)) → line_at sc t n ≡ o → charge_in o ≡ 0
   line_charge t n None e = refl
-  line_charge t n (Some l) e = no_charge l l.1.call refl (answered sc t n l limited built e).call
+  line_charge t n (Some l) e = no_charge l l.1.call refl (line_has (λ x. IsUserCall x.call) sc t n l built.1 e)
 
   none_accepted : (past : List Entry) → accepted sc past ≡ 0
   none_accepted [] = refl
@@ -124,6 +129,8 @@ module _ (sc : Scenario) (limited : IsLimited sc) (built : IsUserOnly sc) where
       by false a b = a
   none_accepted (entries.Made k x ∷ past) = none_accepted past
   none_accepted (entries.Released e ∷ past) = none_accepted past
+  none_accepted (entries.Gone t name ∷ past) = none_accepted past
+  none_accepted (entries.Lost t ∷ past) = none_accepted past
   none_accepted (entries.Phase ∷ past) = none_accepted past
 
   -- where a sum over tasks is 0, each is

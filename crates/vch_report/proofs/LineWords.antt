@@ -6,13 +6,9 @@ use Rattle.vch_model.specs.Text.{hex_of}
 use Rattle.vch_model.specs.Grammar.{IsHex, Begins}
 use Rattle.vch_text.specs.Words.{is_word, word_at, end_of}
 use Rattle.vch_text.specs.Digits.{bytes_of}
-use Rattle.vch_text.proofs.Fronts.{front_sep, front_none}
-use Rattle.vch_text.proofs.Told.{Told, told_bind, told_test, word_true, word_same}
-use Rattle.vch_text.proofs.WordsBack.{Follows, word_told, word_again, end_told, end_again}
-use Rattle.vch_text.proofs.Hexes.{hex_told, hex_again}
-use Rattle.vch_text.proofs.Plain.{IsPlain, plain_word, above, above_plain, decimal_plain, hex_plain, hex_spelled, IsLow, low_append}
+use Rattle.vch_text.proofs.CallerLemmas.{front_sep, front_none, Told, told_bind, told_test, word_true, word_same, Follows, word_told, word_again, end_told, end_again, hex_told, hex_again, IsPlain, plain_word, above, above_plain, decimal_plain, hex_plain, hex_spelled, IsLow, low_append}
 use Rattle.vch_report.specs.Numerals.{below, below_at, ordinal, ordinal_at, after, is_lower, bytes_at}
-use Rattle.vch_report.specs.WellFormed.{IsNumber}
+use Rattle.vch_model.specs.WellFormed.{IsNumber}
 use Rattle.vch_report.proofs.Belows.{IsBelow, below_told, below_again, IsOrdinal, ordinal_told, ordinal_again}
 use Rattle.vch_report.proofs.Lower.{lower_told, lower_again}
 

@@ -4,7 +4,11 @@ use Rattle.std.specs.List.{flat_map, slice_get}
 use Rattle.std.specs.Fmt.{decimal}
 use Rattle.vch_model.specs.declared.entry.Entry.{Entry}
 use Rattle.vch_model.specs.declared.total.Total.{Total}
-use Rattle.vch_model.specs.Text.{entry_line, total_line, total_lines, last_lines, report_text}
+use Rattle.vch_model.specs.declared.entry.Entry.TheVariants as entries
+use Rattle.std.specs.List.{AllByRecursion}
+use Rattle.vch_model.specs.WellFormed.{IsRanged, IsEntry}
+use Rattle.vch_report.specs.WellFormed.{Making}
+use Rattle.vch_model.specs.Text.{newline, entry_line, total_line, total_lines, last_lines, report_text}
 use Rattle.vch_model.specs.TextLines.{split_of, with_line_before}
 use Rattle.vch_text.specs.Reading.{◌>>=◌}
 use Rattle.vch_report.specs.declared.draft.Draft.{Draft}
@@ -20,7 +24,7 @@ use Rattle.vch_report.specs.declared.fault.Stop.TheVariants as stops
 use Rattle.vch_report.specs.Lines.{item_of}
 use Rattle.vch_report.specs.Items.{text_of}
 use Rattle.vch_report.specs.Faults.{IsReport, IsRead, IsFault, IsRefused, IsFaultOf}
-use Rattle.vch_report.specs.Reading.{Read, kept, whole, with_item, step_of, finish, read_text, read_of, Gives, Reads, fault_at}
+use Rattle.vch_report.specs.Reading.{Read, kept, whole, is_of, with_item, step_of, finish, read_text, read_of, Gives, Reads, fault_at}
 use Rattle.vch_report.proofs.ChainWords.{chain_text}
 use Rattle.vch_report.proofs.Same.{found, found_at, right_is, wrong_is}
 use Rattle.vch_report.proofs.Wholes.{goes_on, lines_more, lines_none, read_again, read_report, read_fault, fault_again, whole_same}
@@ -43,6 +47,7 @@ end_read n d rest = lines_none n d rest
 pub start_read : (es : List Entry) (ts : List Total) (text : List ℕ) → es ≡ [] → ts ≡ []
     → read_text 1 (record {
       place = places.Title;
+      version = 0;
       entries = es;
       totals = ts;
       vouchers = 0;
@@ -52,6 +57,7 @@ unfolding read_of
 start_read es ts text e t =
     ap (λ (x : List Entry). read_text 1 (record {
       place = places.Title;
+      version = 0;
       entries = x;
       totals = ts;
       vouchers = 0;
@@ -59,6 +65,7 @@ start_read es ts text e t =
     }) (split_of text)) e
     ∙ ap (λ (x : List Total). read_text 1 (record {
       place = places.Title;
+      version = 0;
       entries = [];
       totals = x;
       vouchers = 0;
@@ -81,8 +88,8 @@ few_total true d x e h f = found_at (λ y. Few d y) x e h f
 few_total false d x e h f = absurd cc
 
 few_item : (p : Place) (d : Read) (i : Item) (e : Read) → with_item p d i ≡ Some e → Few d e
-few_item places.Title d items.Title e h = found_at (λ x. Few d x) (record d { place = places.Entries }) e h (omega arith)
-few_item places.Entries d (items.Step y) e h = found_at (λ x. Few d x) (record d { entries = d.entries ++ y ∷ [] }) e h (omega arith)
+few_item places.Title d (items.Title v) e h = found_at (λ x. Few d x) (record d { place = places.Entries; version = v }) e h (omega arith)
+few_item places.Entries d (items.Step y) e h = few_total (is_of d.version y) d (record d { entries = d.entries ++ y ∷ [] }) e h (omega arith)
 few_item places.Entries d (items.Task t x) e h = few_total (eqb t (length d.totals + 1)) d
     (record d {
       place = places.Totals;
@@ -183,13 +190,24 @@ task_next (x ∷ y ∷ ts) (suc (suc i)) t lt e some =
     regroup : (a b c : List ℕ) → a ++ (44 ∷ ((b ++ codes ",") ++ c)) ≡ ((a ++ (44 ∷ b)) ++ codes ",") ++ c
     regroup a b c = simp append_assoc
 
-pub written : (r : Report) (o0 o1 o2 o3 o4 : List ℕ) → o0 ≡ [] → o1 ≡ o0 ++ codes "report 1\n"
-    → o2 ≡ o1 ++ flat_map entry_line r.history.entries → o3 ≡ o2 ++ total_lines 1 r.totals
-    → o4 ≡ o3 ++ last_lines r.vouchers r.values → o4 ≡ text_of r
+pub written : (r : Report) (o0 o1 o2 o3 o4 o5 o6 : List ℕ) → o0 ≡ [] → o1 ≡ o0 ++ codes "report" → o2 ≡ o1 ++ (32 ∷ decimal r.version)
+    → o3 ≡ o2 ++ newline → o4 ≡ o3 ++ flat_map entry_line r.history.entries → o5 ≡ o4 ++ total_lines 1 r.totals
+    → o6 ≡ o5 ++ last_lines r.vouchers r.values → o6 ≡ text_of r
 unfolding report_text
-written r o0 o1 o2 o3 o4 h0 h1 h2 h3 h4 =
-    h4 ∙ ap (λ l. l ++ last_lines r.vouchers r.values) (h3 ∙ ap (λ l. l ++ total_lines 1 r.totals) (h2
-    ∙ ap (λ l. l ++ flat_map entry_line r.history.entries) (h1 ∙ ap (λ l. l ++ codes "report 1\n") h0)))
+written r o0 o1 o2 o3 o4 o5 o6 h0 h1 h2 h3 h4 h5 h6 =
+    let title : o3 ≡ (codes "report" ++ (32 ∷ decimal r.version)) ++ newline = h3 ∙ ap (λ l. l ++ newline) (h2
+    ∙ ap (λ l. l ++ (32 ∷ decimal r.version)) (h1 ∙ ap (λ l. l ++ codes "report") h0)) in
+    h6 ∙ ap (λ l. l ++ last_lines r.vouchers r.values) (h5 ∙ ap (λ l. l ++ total_lines 1 r.totals) (h4
+    ∙ ap (λ l. l ++ flat_map entry_line r.history.entries) title))
+
+-- what is written of a report is made
+pub all_made : (version : ℕ) (es : List Entry) → AllByRecursion (IsEntry version) es → AllByRecursion (Making IsRanged) es
+all_made version [] h = tt
+all_made version (e ∷ es) h = (made e h.0, all_made version es h.1)
+  where
+    made : (e : Entry) → IsEntry version e → Making IsRanged e
+    made (entries.Made key x) h = h.1
+    made e h = tt
 
 pub pushed_next : (old a comma d text out mid new : List ℕ) → out ≡ old ++ a → mid ≡ out ++ comma → new ≡ mid ++ d
     → text ≡ (a ++ comma) ++ d → new ≡ old ++ text

@@ -1,5 +1,5 @@
 -- What stands behind the word `made`, both ways.
-use Rattle.std.proofs.Common.{◌≡◌, ℕ, ◌+◌, ◌<◌, ◌≤◌, Bool, true, false, cond, eqb, List, [], ◌∷◌, ◌++◌, length, Option, Some, None, refl, sym, ap, subst, ◌∙◌, arith, codes, append-nil}
+use Rattle.std.proofs.Common.{◌≡◌, ◌⊎◌, inl, inr, ℕ, ◌+◌, ◌<◌, ◌≤◌, Bool, true, false, cond, eqb, List, [], ◌∷◌, ◌++◌, length, Option, Some, None, refl, sym, ap, subst, ◌∙◌, arith, codes, append-nil}
 use Rattle.std.proofs.lemmas.Grind.{common_steps}
 use Rattle.std.proofs.lemmas.Fmt.{decimal_digit}
 use Rattle.std.specs.Fmt.{decimal}
@@ -8,18 +8,17 @@ use Rattle.vch_base.specs.declared.value.Value.{Value}
 use Rattle.vch_base.specs.declared.value.Value.TheVariants as values
 use Rattle.vch_base.specs.declared.key.Key.{Key}
 use Rattle.vch_base.specs.declared.key.Key.TheVariants as keys
+use Rattle.vch_base.specs.Keys.{key_of}
 use Rattle.vch_base.specs.Values.{BelongsAt}
 use Rattle.vch_model.specs.declared.entry.Entry.{Entry}
 use Rattle.vch_model.specs.declared.entry.Entry.TheVariants as entries
 use Rattle.vch_model.specs.Text.{hex_of, value_text, entry_text}
 use Rattle.vch_text.specs.Words.{is_word, word_at, end_of}
-use Rattle.vch_text.proofs.Told.{Told, told_bind, told_test, word_true}
-use Rattle.vch_text.proofs.WordsBack.{word_told, end_told, end_again}
-use Rattle.vch_text.proofs.Plain.{above_plain, hex_plain, IsLow}
+use Rattle.vch_text.proofs.CallerLemmas.{Told, told_bind, told_test, word_true, word_told, end_told, end_again, above_plain, hex_plain, IsLow}
 use Rattle.vch_model.specs.Grammar.{Begins}
 use Rattle.vch_report.specs.Numerals.{ordinal_at, after, bytes_at}
 use Rattle.vch_report.specs.Values.{chain_of, user_of, list_of, task_of, account_of, bank_of, made_of}
-use Rattle.vch_report.specs.WellFormed.{IsNumber, IsRanged, IsEntry}
+use Rattle.vch_model.specs.WellFormed.{IsNumber, IsRanged, IsEntry}
 use Rattle.vch_report.proofs.LineWords.{said, num, no_more, a_space, said_again, low_said, low_word, low_num, OrdinalAt, ordinal_at_told, ordinal_at_again, after_told, after_again, BytesAt, bytes_at_told, bytes_at_again}
 use Rattle.vch_report.proofs.ChainWords.{chain_text, IsChain, ChainAt, chain_told, chain_again, chain_plain}
 
@@ -42,19 +41,23 @@ account_text h m = ap (λ l. codes " account " ++ (decimal h ++ (32 ∷ l))) (sy
 
 -- an entry that the line spells
 pub record MadeAt (rest : List ℕ) (e : Entry) : Type 0 where
-  pub good : IsEntry e
+  pub good : IsEntry 2 e
   pub text : behind_made rest ≡ entry_text e
 
-user_told : (rest more : List ℕ) → rest ≡ said (codes "7") more → Told (λ e. MadeAt rest e) (user_of more)
+-- a key of user data
+abbrev IsUserKey : ℕ → Type 0
+IsUserKey k = (bytes : List ℕ) → BelongsAt (key_of 2 k) (values.User bytes)
+
+user_told : (k : ℕ) (rest more : List ℕ) → k < 10 → IsUserKey k → rest ≡ said ((48 + k) ∷ []) more → Told (λ e. MadeAt rest e) (user_of k more)
 unfolding user_of
-user_told rest more k =
+user_told k rest more lt user is =
     told_bind (λ r. more ≡ said (codes "user") r)
     (λ e. MadeAt rest e) (after (codes "user") more) _ (after_told (codes "user") more)
     (λ r a. told_bind (λ b. BytesAt r b) (λ e. MadeAt rest e) (bytes_at r) _ (bytes_at_told r)
     (λ b h. record {
-      good = (tt, h.bytes_are);
-      text = ap behind_made (k ∙ ap (said (codes "7")) (a
-          ∙ ap (said (codes "user")) h.parts)) ∙ sym (made_text 7 (values.User b) (omega arith));
+      good = (user b, h.bytes_are);
+      text = ap behind_made (is ∙ ap (said ((48 + k) ∷ [])) (a
+          ∙ ap (said (codes "user")) h.parts)) ∙ sym (made_text k (values.User b) lt);
     }))
 
 list_told : (rest more : List ℕ) → rest ≡ said (codes "2") more → Told (λ e. MadeAt rest e) (list_of more)
@@ -113,12 +116,14 @@ pub made_told : (rest : List ℕ) → Told (λ e. MadeAt rest e) (made_of rest)
 unfolding made_of
 made_told rest =
     told_bind (λ x. Begins rest x.0 x.1) (λ e. MadeAt rest e) (word_at rest) _ (word_told rest)
-    (λ w b. told_test (λ e. MadeAt rest e) (is_word w.0 (codes "7")) (user_of w.1) _
-    (λ t. user_told rest w.1 (b.parts ∙ ap (λ l. said l w.1) (word_true w.0 (codes "7") t)))
+    (λ w b. told_test (λ e. MadeAt rest e) (is_word w.0 (codes "7")) (user_of 7 w.1) _
+    (λ t. user_told 7 rest w.1 (omega arith) (λ bytes. tt) (b.parts ∙ ap (λ l. said l w.1) (word_true w.0 (codes "7") t)))
+    (λ f. told_test (λ e. MadeAt rest e) (is_word w.0 (codes "8")) (user_of 8 w.1) _
+    (λ t. user_told 8 rest w.1 (omega arith) (λ bytes. tt) (b.parts ∙ ap (λ l. said l w.1) (word_true w.0 (codes "8") t)))
     (λ f. told_test (λ e. MadeAt rest e) (is_word w.0 (codes "2")) (list_of w.1) _
     (λ t. list_told rest w.1 (b.parts ∙ ap (λ l. said l w.1) (word_true w.0 (codes "2") t)))
     (λ f. told_test (λ e. MadeAt rest e) (is_word w.0 (codes "3")) (bank_of w.1) None
-    (λ t. bank_told rest w.1 (b.parts ∙ ap (λ l. said l w.1) (word_true w.0 (codes "3") t))) (λ f. tt))))
+    (λ t. bank_told rest w.1 (b.parts ∙ ap (λ l. said l w.1) (word_true w.0 (codes "3") t))) (λ f. tt)))))
 
 -- ---- what is so is read
 
@@ -132,6 +137,16 @@ unfolding made_of user_of is_word
 user_again bytes h =
     rw (
       said_again (codes "7") (value_text (values.User bytes)) (above_plain (codes "7") refl) (a_space _),
+      after_again (codes "user") (32 ∷ hex_of bytes) refl (a_space _),
+      bytes_at_again bytes h,
+    ) refl
+
+test_again : (bytes : List ℕ) → IsBytes bytes
+    → made_of (keyed 8 (values.User bytes)) ≡ Some (entries.Made 8 (values.User bytes))
+unfolding made_of user_of is_word
+test_again bytes h =
+    rw (
+      said_again (codes "8") (value_text (values.User bytes)) (above_plain (codes "8") refl) (a_space _),
       after_again (codes "user") (32 ∷ hex_of bytes) refl (a_space _),
       bytes_at_again bytes h,
     ) refl
@@ -178,33 +193,37 @@ account_again t m h g =
 
 -- ---- which key it is
 
-abbrev keys_by : Bool → Bool → Bool → Option Key
-keys_by a b c = cond a (Some keys.Importance) (cond b (Some keys.Bank) (cond c (Some keys.User) None))
+abbrev keys_by : Bool → Bool → Bool → Bool → Option Key
+keys_by a b c d = cond a (Some keys.Importance) (cond b (Some keys.Bank) (cond c (Some keys.User) (cond d (Some keys.Test) None)))
 
-user_key : (a b c : Bool) (bytes : List ℕ) → BelongsAt (keys_by a b c) (values.User bytes) → c ≡ true
-user_key true b c bytes h = absurd h
-user_key false true c bytes h = absurd h
-user_key false false true bytes h = refl
-user_key false false false bytes h = absurd h
+user_key : (a b c d : Bool) (bytes : List ℕ) → BelongsAt (keys_by a b c d) (values.User bytes) → (c ≡ true) ⊎ (d ≡ true)
+user_key true b c d bytes h = absurd h
+user_key false true c d bytes h = absurd h
+user_key false false true d bytes h = inl refl
+user_key false false false true bytes h = inr refl
+user_key false false false false bytes h = absurd h
 
-list_key : (a b c : Bool) (list : List ℕ) → BelongsAt (keys_by a b c) (values.Chain list)
+list_key : (a b c d : Bool) (list : List ℕ) → BelongsAt (keys_by a b c d) (values.Chain list)
     → (a ≡ true) × (1 ≤ length list) × (length list ≤ 8)
-list_key true b c list h = (refl, h.0, h.1)
-list_key false true c list h = absurd h
-list_key false false true list h = absurd h
-list_key false false false list h = absurd h
+list_key true b c d list h = (refl, h.0, h.1)
+list_key false true c d list h = absurd h
+list_key false false true d list h = absurd h
+list_key false false false true list h = absurd h
+list_key false false false false list h = absurd h
 
-task_key : (a b c : Bool) (t : ℕ) → BelongsAt (keys_by a b c) (values.Task t) → b ≡ true
-task_key true b c t h = absurd h
-task_key false true c t h = refl
-task_key false false true t h = absurd h
-task_key false false false t h = absurd h
+task_key : (a b c d : Bool) (t : ℕ) → BelongsAt (keys_by a b c d) (values.Task t) → b ≡ true
+task_key true b c d t h = absurd h
+task_key false true c d t h = refl
+task_key false false true d t h = absurd h
+task_key false false false true t h = absurd h
+task_key false false false false t h = absurd h
 
-account_key : (a b c : Bool) (t m : ℕ) → BelongsAt (keys_by a b c) (values.Account t m) → b ≡ true
-account_key true b c t m h = absurd h
-account_key false true c t m h = refl
-account_key false false true t m h = absurd h
-account_key false false false t m h = absurd h
+account_key : (a b c d : Bool) (t m : ℕ) → BelongsAt (keys_by a b c d) (values.Account t m) → b ≡ true
+account_key true b c d t m h = absurd h
+account_key false true c d t m h = refl
+account_key false false true d t m h = absurd h
+account_key false false false true t m h = absurd h
+account_key false false false false t m h = absurd h
 
 same : (a b : ℕ) → eqb a b ≡ true → a ≡ b
 same a b e = grind (arith, common_steps)
@@ -240,11 +259,14 @@ line_at k n x e lt g h = subst (λ (m : ℕ). MadeLine m x) (sym e) (record {
   low = (omega arith, (omega arith, value_low x g));
 })
 
-pub made_again : (k : ℕ) (x : Value) → IsEntry (entries.Made k x) → MadeLine k x
-made_again k (values.User bytes) h = line_at k 7 (values.User bytes) (same k 7 (user_key (eqb k 2) (eqb k 3)
-    (eqb k 7) bytes h.0)) (omega arith) h.1 (user_again bytes h.1)
+pub made_again : (k : ℕ) (x : Value) → IsEntry 2 (entries.Made k x) → MadeLine k x
+made_again k (values.User bytes) h =
+    elim (user_key (eqb k 2) (eqb k 3) (eqb k 7) (eqb k 8) bytes h.0) [
+      | inl c ↦ line_at k 7 (values.User bytes) (same k 7 c) (omega arith) h.1 (user_again bytes h.1)
+      | inr d ↦ line_at k 8 (values.User bytes) (same k 8 d) (omega arith) h.1 (test_again bytes h.1)
+    ]
 made_again k (values.Chain list) h =
-    let b = list_key (eqb k 2) (eqb k 3) (eqb k 7) list h.0 in
+    let b = list_key (eqb k 2) (eqb k 3) (eqb k 7) (eqb k 8) list h.0 in
     line_at k 2 (values.Chain list) (same k 2 b.0) (omega arith) h.1 (list_again list (record {
       some = b.1;
       few = b.2;
@@ -252,6 +274,6 @@ made_again k (values.Chain list) h =
     }))
 made_again k values.Default h = absurd h.1
 made_again k (values.Task t) h = line_at k 3 (values.Task t) (same k 3 (task_key (eqb k 2) (eqb k 3)
-    (eqb k 7) t h.0)) (omega arith) h.1 (task_again t h.1)
+    (eqb k 7) (eqb k 8) t h.0)) (omega arith) h.1 (task_again t h.1)
 made_again k (values.Account t m) h = line_at k 3 (values.Account t m) (same k 3 (account_key (eqb k 2) (eqb k 3)
-    (eqb k 7) t m h.0)) (omega arith) h.1 (account_again t m h.1.0 h.1.1)
+    (eqb k 7) (eqb k 8) t m h.0)) (omega arith) h.1 (account_again t m h.1.0 h.1.1)

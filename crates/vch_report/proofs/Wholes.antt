@@ -279,6 +279,7 @@ one_fault text n k f g = by_cut (two_cuts f.before f.after g.before g.after (sym
 
 report_at : Read → Report
 report_at d = record {
+  version = d.version;
   history = record { entries = d.entries; spare = 0 };
   totals = d.totals;
   vouchers = d.vouchers;
@@ -312,6 +313,7 @@ fault_again text n f = fault_by text n (read_of text) refl f
 
 pub whole_same : (a b : Report) → whole a ≡ whole b → IsSame a b
 whole_same a b e = record {
+  version = ap (λ (x : Read). x.version) e;
   entries = ap (λ (x : Read). x.entries) e;
   totals = ap (λ (x : Read). x.totals) e;
   vouchers = ap (λ (x : Read). x.vouchers) e;

@@ -15,6 +15,7 @@ IsReport text report = IsWellFormed report × (text ≡ text_of report)
 
 -- two reports that tell the same; the room of their histories doesn't count
 pub record IsSame (a b : Report) : Type 0 where
+  pub version : a.version ≡ b.version
   pub entries : a.history.entries ≡ b.history.entries
   pub totals : a.totals ≡ b.totals
   pub vouchers : a.vouchers ≡ b.vouchers

@@ -1,9 +1,9 @@
--- A line of a report.
+-- A line of a report, in whichever version it may stand.
 use Rattle.std.specs.Prelude.{ℕ, ◌^◌, if◌then◌else◌, List, Option, Some, None, codes}
 use Rattle.vch_model.specs.declared.entry.Entry.{Entry}
 use Rattle.vch_model.specs.declared.entry.Entry.TheVariants as entries
 use Rattle.vch_text.specs.Reading.{◌>>=◌}
-use Rattle.vch_text.specs.Words.{is_word, front_of, end_of}
+use Rattle.vch_text.specs.Words.{is_word, front_of, word_at, end_of}
 use Rattle.vch_report.specs.declared.item.Item.{Item}
 use Rattle.vch_report.specs.declared.item.Item.TheVariants as items
 use Rattle.vch_report.specs.Numerals.{below_at, ordinal_at, after}
@@ -26,11 +26,31 @@ phase_of rest = do
   done ← end_of rest
   Some (items.Step entries.Phase)
 
+unfoldable pub gone_of : List ℕ → Option Item
+gone_of rest = do
+  t ← ordinal_at rest
+  name ← ordinal_at t.1
+  done ← end_of name.1
+  Some (items.Step (entries.Gone t.0 name.0))
+
+unfoldable pub lost_of : List ℕ → Option Item
+lost_of rest = do
+  t ← ordinal_at rest
+  done ← end_of t.1
+  Some (items.Step (entries.Lost t.0))
+
+unfoldable pub version_of : List ℕ → Option ℕ
+version_of w =
+    if is_word w (codes "1") then Some 1
+    else if is_word w (codes "2") then Some 2
+    else None
+
 unfoldable pub title_of : List ℕ → Option Item
 title_of rest = do
-  more ← after (codes "1") rest
-  done ← end_of more
-  Some items.Title
+  w ← word_at rest
+  done ← end_of w.1
+  version ← version_of w.0
+  Some (items.Title version)
 
 unfoldable pub last_of : List ℕ → Option Item
 last_of rest = do
@@ -71,6 +91,8 @@ made_item rest = do
 unfoldable pub small_item : List ℕ → List ℕ → Option Item
 small_item w rest =
     if is_word w (codes "released") then release_of rest
+    else if is_word w (codes "gone") then gone_of rest
+    else if is_word w (codes "lost") then lost_of rest
     else if is_word w (codes "phase") then phase_of rest
     else if is_word w (codes "task") then total_of rest
     else if is_word w (codes "vouchers") then counts_of rest

@@ -1,10 +1,8 @@
 -- What the report of a core tells.
 use Rattle.std.specs.Prelude.{◌≡◌, ℕ, zero, suc, ◌≤◌, List, [], ◌∷◌, length, reverse}
-use Rattle.hex.specs.Hex.{IsBytes}
 use Rattle.vch_base.specs.declared.value.Value.{Value}
 use Rattle.vch_base.specs.declared.value.Value.TheVariants as values
 use Rattle.vch_model.specs.declared.entry.Entry.{Entry}
-use Rattle.vch_model.specs.declared.entry.Entry.TheVariants as entries
 use Rattle.vch_model.specs.declared.total.Total.{Total}
 use Rattle.vch_model.specs.declared.lists.Scenario.{Scenario}
 use Rattle.vch_model.specs.After.{store_of}
@@ -13,6 +11,7 @@ use Rattle.vch_report.specs.declared.report.Report.{Report}
 
 -- a report tells of this history of the scenario, the oldest entry first, all that its text says
 pub record Tells (sc : Scenario) (history : List Entry) (report : Report) : Type 0 where
+  pub version : report.version ≡ sc.version
   pub entries : report.history.entries ≡ history
   pub totals : report.totals ≡ totals_of sc (reverse history)
   pub vouchers : report.vouchers ≡ vouchers_in (store_of sc (reverse history))
@@ -27,19 +26,9 @@ abbrev pub no_totals : ℕ → List Total
 no_totals zero = []
 no_totals (suc n) = no_total ∷ no_totals n
 
--- What a copy of an entry needs, and what its type tells.
+-- What a copy of an entry needs.
 
 -- a list of tasks has one
 abbrev pub HasTask : Value → Type 0
 HasTask (values.Chain list) = 1 ≤ length list
 HasTask x = Unit {0}
-
--- what user data has are bytes
-abbrev pub HasBytes : Value → Type 0
-HasBytes (values.User bytes) = IsBytes bytes
-HasBytes x = Unit {0}
-
--- of a value that is made
-abbrev pub Making : (Value → Type 0) → Entry → Type 0
-Making p (entries.Made key x) = p x
-Making p entry = Unit {0}

@@ -1,6 +1,9 @@
 -- What the lines of a text make of a report, one after the other.
-use Rattle.std.specs.Prelude.{◌≡◌, ℕ, ◌+◌, ◌==◌, ◌&&◌, Bool, true, false, if◌then◌else◌, List, [], ◌∷◌, ◌++◌, length, Option, Some, None, Result, Ok, Err}
+use Rattle.std.specs.Prelude.{◌≡◌, ℕ, ◌+◌, ◌==◌, ◌&&◌, ◌||◌, not, Bool, true, false, if◌then◌else◌, List, [], ◌∷◌, ◌++◌, length, Option, Some, None, Result, Ok, Err}
+use Rattle.vch_model.specs.declared.call.Word.{Word}
+use Rattle.vch_model.specs.declared.call.Word.TheVariants as words
 use Rattle.vch_model.specs.declared.entry.Entry.{Entry}
+use Rattle.vch_model.specs.declared.entry.Entry.TheVariants as entries
 use Rattle.vch_model.specs.declared.total.Total.{Total}
 use Rattle.vch_model.specs.TextLines.{split_of}
 use Rattle.vch_report.specs.declared.report.Report.{Report}
@@ -19,32 +22,49 @@ use Rattle.vch_report.specs.Lines.{item_of}
 -- what was read so far, and which lines may stand next
 pub record Read : Type 0 where
   pub place : Place
+  pub version : ℕ
   pub entries : List Entry
   pub totals : List Total
   pub vouchers : ℕ
   pub values : ℕ
 
 abbrev pub nothing : Read
-nothing = record { place = places.Title; entries = []; totals = []; vouchers = 0; values = 0 }
+nothing = record { place = places.Title; version = 0; entries = []; totals = []; vouchers = 0; values = 0 }
 
 -- what a draft keeps, but for the room in its history
 abbrev pub kept : Draft → Read
-kept d = record { place = d.place; entries = d.history.entries; totals = d.totals; vouchers = d.vouchers; values = d.values }
+kept d = record { place = d.place; version = d.version; entries = d.history.entries; totals = d.totals; vouchers = d.vouchers; values = d.values }
 
 -- a report that was read to its end
 abbrev pub whole : Report → Read
-whole r = record { place = places.Done; entries = r.history.entries; totals = r.totals; vouchers = r.vouchers; values = r.values }
+whole r = record { place = places.Done; version = r.version; entries = r.history.entries; totals = r.totals; vouchers = r.vouchers; values = r.values }
 
 -- the line of the next task
 abbrev pub with_total : Read → ℕ → Total → Option Read
 with_total d t total = if t == length d.totals + 1 then Some (record d { place = places.Totals; totals = d.totals ++ total ∷ [] }) else None
 
+abbrev pub is_exit : Word → Bool
+is_exit words.Exit = true
+is_exit word = false
+
+-- what is of version 2 alone: an exit, what it gives up, and a value at the key of tests
+abbrev pub is_later : Entry → Bool
+is_later (entries.Call t n word reply) = is_exit word
+is_later (entries.Made key x) = key == 8
+is_later (entries.Released e) = false
+is_later (entries.Gone t name) = true
+is_later (entries.Lost t) = true
+is_later entries.Phase = false
+
+abbrev pub is_of : ℕ → Entry → Bool
+is_of version entry = version == 2 || not (is_later entry)
+
 abbrev pub with_entry : Read → Entry → Option Read
-with_entry d entry = Some (record d { entries = d.entries ++ entry ∷ [] })
+with_entry d entry = if is_of d.version entry then Some (record d { entries = d.entries ++ entry ∷ [] }) else None
 
 -- what was read with one item more, where that may stand at this place
 abbrev pub with_item : Place → Read → Item → Option Read
-with_item places.Title d items.Title = Some (record d { place = places.Entries })
+with_item places.Title d (items.Title version) = Some (record d { place = places.Entries; version = version })
 with_item places.Entries d (items.Step entry) = with_entry d entry
 with_item places.Entries d (items.Task t total) = with_total d t total
 with_item places.Totals d (items.Task t total) = with_total d t total

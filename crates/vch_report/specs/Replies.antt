@@ -1,5 +1,6 @@
 -- What stands behind the word `call`: a task, a number, a command word and a reply.
-use Rattle.std.specs.Prelude.{ℕ, ◌^◌, ℤ, pos, negsuc, Bool, true, false, if◌then◌else◌, List, Option, Some, None, codes}
+use Rattle.std.specs.Prelude.{ℕ, ◌^◌, ℤ, Bool, true, false, if◌then◌else◌, List, Option, Some, None, codes}
+use Rattle.vch_base.specs.declared.codes.TheConstants.{KERN_INVALID_ARGUMENT, KERN_FAILURE, KERN_RESOURCE_SHORTAGE, KERN_NO_ACCESS, KERN_INVALID_NAME, KERN_INVALID_CAPABILITY, MIG_ARRAY_TOO_LARGE, MACH_SEND_INVALID_DEST, MACH_SEND_TIMED_OUT, MACH_SEND_INVALID_VOUCHER, MACH_RCV_TIMED_OUT}
 use Rattle.vch_base.specs.declared.fault.Code.{Code}
 use Rattle.vch_model.specs.declared.call.Word.{Word}
 use Rattle.vch_model.specs.declared.call.Word.TheVariants as words
@@ -24,6 +25,7 @@ verb_of w =
     else if is_word w (codes "ledger") then Some words.Ledger
     else if is_word w (codes "assertions") then Some words.Assertions
     else if is_word w (codes "live") then Some words.Live
+    else if is_word w (codes "exit") then Some words.Exit
     else None
 
 abbrev pub coded : ℤ → Option Code
@@ -32,17 +34,17 @@ coded number = Some (record { number = number })
 -- the code of a refusal
 unfoldable pub code_of : List ℕ → Option Code
 code_of w =
-    if is_word w (codes "4") then coded (pos 4)
-    else if is_word w (codes "5") then coded (pos 5)
-    else if is_word w (codes "6") then coded (pos 6)
-    else if is_word w (codes "8") then coded (pos 8)
-    else if is_word w (codes "15") then coded (pos 15)
-    else if is_word w (codes "20") then coded (pos 20)
-    else if is_word w (codes "-307") then coded (negsuc 306)
-    else if is_word w (codes "268435459") then coded (pos 268435459)
-    else if is_word w (codes "268435460") then coded (pos 268435460)
-    else if is_word w (codes "268435461") then coded (pos 268435461)
-    else if is_word w (codes "268451843") then coded (pos 268451843)
+    if is_word w (codes "4") then coded KERN_INVALID_ARGUMENT
+    else if is_word w (codes "5") then coded KERN_FAILURE
+    else if is_word w (codes "6") then coded KERN_RESOURCE_SHORTAGE
+    else if is_word w (codes "8") then coded KERN_NO_ACCESS
+    else if is_word w (codes "15") then coded KERN_INVALID_NAME
+    else if is_word w (codes "20") then coded KERN_INVALID_CAPABILITY
+    else if is_word w (codes "-307") then coded MIG_ARRAY_TOO_LARGE
+    else if is_word w (codes "268435459") then coded MACH_SEND_INVALID_DEST
+    else if is_word w (codes "268435460") then coded MACH_SEND_TIMED_OUT
+    else if is_word w (codes "268435461") then coded MACH_SEND_INVALID_VOUCHER
+    else if is_word w (codes "268451843") then coded MACH_RCV_TIMED_OUT
     else None
 
 unfoldable pub created_of : List ℕ → Option Reply
@@ -116,6 +118,7 @@ answer_of words.Charge rest = done_of rest
 answer_of words.Ledger rest = ledger_of rest
 answer_of words.Assertions rest = assertions_of rest
 answer_of words.Live rest = live_of rest
+answer_of words.Exit rest = done_of rest
 
 -- a code that stands alone
 unfoldable pub refused_of : List ℕ → List ℕ → Option Reply

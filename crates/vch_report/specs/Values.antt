@@ -25,11 +25,12 @@ chain_of w = do
   ts ← ordinals (parts_of w)
   if nat_le (length ts) 8 then Some ts else None
 
-unfoldable pub user_of : List ℕ → Option Entry
-user_of rest = do
+-- user data at the key with this number
+unfoldable pub user_of : ℕ → List ℕ → Option Entry
+user_of key rest = do
   more ← after (codes "user") rest
   bytes ← bytes_at more
-  Some (entries.Made 7 (values.User bytes))
+  Some (entries.Made key (values.User bytes))
 
 unfoldable pub list_of : List ℕ → Option Entry
 list_of rest = do
@@ -62,7 +63,8 @@ bank_of rest = do
 unfoldable pub made_of : List ℕ → Option Entry
 made_of rest = do
   w ← word_at rest
-  if is_word w.0 (codes "7") then user_of w.1
+  if is_word w.0 (codes "7") then user_of 7 w.1
+      else if is_word w.0 (codes "8") then user_of 8 w.1
       else if is_word w.0 (codes "2") then list_of w.1
       else if is_word w.0 (codes "3") then bank_of w.1
       else None

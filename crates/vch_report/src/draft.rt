@@ -19,6 +19,7 @@ pub enum Place {
 #[derive(Drop)]
 pub struct Draft {
     pub place: Place,
+    pub version: u32,
     pub history: History,
     pub totals: TotalList,
     pub vouchers: u64,

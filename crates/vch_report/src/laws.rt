@@ -3,6 +3,14 @@ ghost use Rattle.vch_report.specs.declared.report.Report.{Report};
 ghost use Rattle.vch_report.specs.WellFormed.{IsWellFormed};
 ghost use Rattle.vch_report.specs.Items.{text_of};
 ghost use Rattle.vch_report.specs.Faults.{IsReport, IsSame, IsFault};
+ghost use Rattle.std.specs.Prelude.{◌<◌, ◌^◌, length};
+ghost use Rattle.std.specs.List.{AllByRecursion};
+ghost use Rattle.vch_model.specs.declared.entry.Entry.{Entry};
+ghost use Rattle.vch_model.specs.declared.lists.Scenario.{Scenario};
+ghost use Rattle.vch_model.specs.Scenarios.{IsLimited};
+ghost use Rattle.vch_model.specs.Legal.{Legal};
+ghost use Rattle.vch_legal.specs.Reports.{IsByteEntry};
+ghost use Rattle.vch_report.specs.OfCore.{Tells};
 
 /// A text is that of one report or has one first line that can't stand, and never both.
 pub fn one_answer()
@@ -20,4 +28,12 @@ pub fn one_answer()
 pub fn one_text()
     ensures injective { (a b : Report) → IsWellFormed a → IsWellFormed b → text_of a ≡ text_of b → IsSame a b }
     ensures again { (report : Report) → IsWellFormed report → IsReport (text_of report) report }
+{}
+
+/// A legal history has a text: a report that tells of one is well formed, where its entries can be numbered in 32 bits and
+/// the content of what is made are bytes. That what such a history tells has a text is `vch_legal`'s law
+/// `legal_reports_are_well_formed`, and this is it for reports.
+pub fn legal_reports()
+    ensures { (sc : Scenario) (history : List Entry) (report : Report) → IsLimited sc → length history < 2 ^ 32
+        → AllByRecursion IsByteEntry history → Legal history sc → Tells sc history report → IsWellFormed report }
 {}

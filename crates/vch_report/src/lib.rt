@@ -5,7 +5,8 @@
 //!
 //! Its one invariant: a well-formed report has one text, and a text is that of one report at most
 //! (`one_text`). So a history that is printed is the only one with that text, and whoever checks the
-//! text checks the history. The hazard is a text that says two things, or one that is altered and
+//! text checks the history. Each legal history has such a text, in both versions and whatever its calls
+//! (`legal_reports`). The hazard is a text that says two things, or one that is altered and
 //! still read: a number with a zero in front, a second space, a capital digit, a line too many. Each
 //! text is a report's or has one first line that can't stand (`one_answer`), and `read` answers
 //! just that.
@@ -35,12 +36,14 @@ mod values;
 mod writer;
 
 pub use fault::ReportFault;
-pub use laws::{one_answer, one_text};
+pub use laws::{legal_reports, one_answer, one_text};
 pub use of_core::report_of;
 pub use reader::read;
 pub use report::Report;
 pub use vch_model::{Total, TotalList};
 pub use writer::write;
 
+#[cfg(test)]
+mod core_tests;
 #[cfg(test)]
 mod tests;

@@ -10,7 +10,7 @@ use crate::replies::call;
 use crate::values::made;
 use std::alloc::Global;
 use vch_model::{Entry, Total};
-use vch_text::{end, front, is_word};
+use vch_text::{end, front, is_word, word};
 
 /// `E`, behind the word `released`.
 #[tactic(auto, unfolding(crate::specs::Lines::released_of))]
@@ -39,6 +39,31 @@ fn phase(rest: &[u8]) -> Option<Item>
     end(rest)?;
     Some(Item::Step {
         entry: Entry::Phase,
+    })
+}
+
+/// `T NAME`, behind the word `gone`.
+#[tactic(auto, unfolding(crate::specs::Lines::gone_of))]
+fn gone(rest: &[u8]) -> Option<Item>
+    ensures { Finds (λ x. x) result (lines.gone_of rest.now) }
+{
+    let (task, rest) = ordinal_in(rest)?;
+    let (name, rest) = ordinal_in(rest)?;
+    end(rest)?;
+    Some(Item::Step {
+        entry: Entry::Gone { task, name },
+    })
+}
+
+/// `T`, behind the word `lost`.
+#[tactic(auto, unfolding(crate::specs::Lines::lost_of))]
+fn lost(rest: &[u8]) -> Option<Item>
+    ensures { Finds (λ x. x) result (lines.lost_of rest.now) }
+{
+    let (task, rest) = ordinal_in(rest)?;
+    end(rest)?;
+    Some(Item::Step {
+        entry: Entry::Lost { task },
     })
 }
 
@@ -73,14 +98,29 @@ fn counts(rest: &[u8]) -> Option<Item>
     Some(Item::Counts { vouchers, values })
 }
 
-/// `1`, behind the word `report`.
+/// A version of the text.
+#[tactic(auto, unfolding(crate::specs::Lines::version_of))]
+fn version(word: &[u8]) -> Option<u32>
+    ensures { Finds (λ x. x) result (lines.version_of word.now) }
+{
+    if is_word(word, b"1") {
+        return Some(1);
+    }
+    if is_word(word, b"2") {
+        return Some(2);
+    }
+    None
+}
+
+/// `V`, behind the word `report`.
 #[tactic(auto, unfolding(crate::specs::Lines::title_of))]
 fn title(rest: &[u8]) -> Option<Item>
     ensures { Finds (λ x. x) result (lines.title_of rest.now) }
 {
-    let rest = after(b"1", rest)?;
+    let (token, rest) = word(rest)?;
     end(rest)?;
-    Some(Item::Title)
+    let version = version(token)?;
+    Some(Item::Title { version })
 }
 
 /// Nothing, behind the word `end`.
@@ -99,6 +139,12 @@ fn small_item(name: &[u8], rest: &[u8]) -> Option<Item>
 {
     if is_word(name, b"released") {
         return release(rest);
+    }
+    if is_word(name, b"gone") {
+        return gone(rest);
+    }
+    if is_word(name, b"lost") {
+        return lost(rest);
     }
     if is_word(name, b"phase") {
         return phase(rest);

@@ -3,8 +3,9 @@ ghost use Rattle.std.specs.List.{AllByRecursion};
 ghost use Rattle.hex.specs.Hex.{IsBytes};
 ghost use Rattle.vch_model.specs.Canonical.{IsWritable};
 ghost use Rattle.vch_model.specs.UserOnly.{IsUserOnly};
-ghost use Rattle.vch_report.specs.OfCore.{HasBytes, HasTask, Making, Tells, no_totals};
-ghost use Rattle.vch_report.specs.WellFormed.{IsWellFormed};
+ghost use Rattle.vch_legal.specs.Reports.{IsByteValue, IsByteEntry};
+ghost use Rattle.vch_report.specs.OfCore.{HasTask, Tells, no_totals};
+ghost use Rattle.vch_report.specs.WellFormed.{Making, IsWellFormed};
 
 use crate::Report;
 use std::alloc::Global;
@@ -36,7 +37,7 @@ fn copy_chain(list: &Chain) -> Chain
 fn copy_value(alloc: Global, value: &Value) -> Result<Value, NoMemory>
     requires { HasTask value.now }
     ensures same { IfOk result (λ made. made ≡ value.now) }
-    ensures bytes { IfOk result (λ made. HasBytes made) }
+    ensures bytes { IfOk result (λ made. IsByteValue made) }
 {
     Ok(match value {
         Value::User { bytes } => Value::User {
@@ -90,7 +91,7 @@ fn copy_reply(alloc: Global, reply: &Reply) -> Result<Reply, NoMemory>
 fn copy_entry(alloc: Global, entry: &Entry) -> Result<Entry, NoMemory>
     requires { Making HasTask entry.now }
     ensures same { IfOk result (λ made. made ≡ entry.now) }
-    ensures bytes { IfOk result (λ made. Making HasBytes made) }
+    ensures bytes { IfOk result (λ made. IsByteEntry made) }
 {
     Ok(match entry {
         Entry::Call {
@@ -109,6 +110,11 @@ fn copy_entry(alloc: Global, entry: &Entry) -> Result<Entry, NoMemory>
             value: copy_value(alloc, value)?,
         },
         Entry::Released { made } => Entry::Released { made: *made },
+        Entry::Gone { task, name } => Entry::Gone {
+            task: *task,
+            name: *name,
+        },
+        Entry::Lost { task } => Entry::Lost { task: *task },
         Entry::Phase => Entry::Phase,
     })
 }
@@ -117,7 +123,7 @@ fn copy_entry(alloc: Global, entry: &Entry) -> Result<Entry, NoMemory>
 fn copy_history(alloc: Global, history: &History) -> Result<History, NoMemory>
     requires { AllByRecursion (Making HasTask) history.now.entries }
     ensures same { IfOk result (λ made. made.entries ≡ history.now.entries) }
-    ensures bytes { IfOk result (λ made. AllByRecursion (Making HasBytes) made.entries) }
+    ensures bytes { IfOk result (λ made. AllByRecursion IsByteEntry made.entries) }
 {
     let mut made = History::new(alloc);
     made.reserve(history.len())?;
@@ -151,7 +157,7 @@ fn empty_totals(alloc: Global, count: usize) -> Result<TotalList, NoMemory>
 ///
 /// # Errors
 ///
-/// Want of memory alone.
+/// Out of memory alone.
 pub fn report_of(alloc: Global, core: &Core) -> Result<Report, NoMemory>
     requires ended { length core.now.scenario.phases ≤ core.now.phase }
     requires built { IsUserOnly core.now.scenario }
@@ -166,6 +172,7 @@ pub fn report_of(alloc: Global, core: &Core) -> Result<Report, NoMemory>
     let vouchers = core.vouchers();
     let values = core.values();
     Ok(Report {
+        version: core.scenario().version,
         history,
         totals,
         vouchers,

@@ -9,7 +9,7 @@ use crate::item::Item;
 use crate::lines::item;
 use crate::{Report, ReportFault};
 use std::alloc::Global;
-use vch_model::{Entry, History, Total, TotalList};
+use vch_model::{Entry, History, Total, TotalList, Word};
 use vch_text::next_line;
 
 /// What was read, with the line of the next task.
@@ -25,10 +25,27 @@ fn with_total(mut draft: Draft, task: u32, total: Total) -> Result<Draft, Stop>
     Ok(draft)
 }
 
-/// What was read, with one entry more.
+/// Whether an entry is of version 2 alone: an exit, what it gives up, and a value at the key of tests.
+fn is_later(entry: &Entry) -> bool
+    ensures { result ≡ reading.is_later entry.now }
+{
+    match entry {
+        Entry::Call { word, .. } => matches!(word, Word::Exit),
+        Entry::Made { key, .. } => *key == 8,
+        Entry::Released { .. } => false,
+        Entry::Gone { .. } => true,
+        Entry::Lost { .. } => true,
+        Entry::Phase => false,
+    }
+}
+
+/// What was read, with one entry more, where that is one of the version.
 fn with_entry(mut draft: Draft, entry: Entry) -> Result<Draft, Stop>
     ensures { reading.Gives reading.kept result (reading.with_entry (reading.kept draft) entry) }
 {
+    if draft.version != 2 && is_later(&entry) {
+        return Err(Stop::Fault);
+    }
     draft.history.reserve(1)?;
     draft.history.push(entry);
     Ok(draft)
@@ -40,8 +57,9 @@ fn with_item(draft: Draft, item: Item) -> Result<Draft, Stop>
     ensures { reading.Gives reading.kept result (reading.with_item draft.place (reading.kept draft) item) }
 {
     match (draft.place, item) {
-        (Place::Title, Item::Title) => Ok(Draft {
+        (Place::Title, Item::Title { version }) => Ok(Draft {
             place: Place::Entries,
+            version,
             ..draft
         }),
         (Place::Entries, Item::Step { entry }) => with_entry(draft, entry),
@@ -88,6 +106,7 @@ fn finish(number: u32, draft: Draft, rest: &[u8]) -> Result<Report, ReportFault>
 {
     if is_done(draft.place) && rest.is_empty() {
         Ok(Report {
+            version: draft.version,
             history: draft.history,
             totals: draft.totals,
             vouchers: draft.vouchers,
@@ -115,6 +134,7 @@ fn read_lines(alloc: Global, bytes: &[u8]) -> Result<Report, ReportFault>
 {
     let mut draft = Draft {
         place: Place::Title,
+        version: 0,
         history: History::new(alloc),
         totals: TotalList::new(alloc),
         vouchers: 0,
@@ -140,7 +160,7 @@ fn read_lines(alloc: Global, bytes: &[u8]) -> Result<Report, ReportFault>
 /// there may be any number of tasks.
 ///
 /// It goes over the text once, in time that grows with its size, and takes memory only for what the
-/// report keeps. The one other error is want of memory.
+/// report keeps. The one other error is out of memory.
 pub fn read(alloc: Global, bytes: &[u8]) -> Result<Report, ReportFault>
     requires { length bytes.now < 4294967295 }
     // What is read is well formed, and its text is the bytes.

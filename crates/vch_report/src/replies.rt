@@ -7,6 +7,11 @@ use crate::fault::Stop;
 use crate::numerals::{amount_in, bytes_in, count_in, ordinal_in, small_in};
 use std::alloc::Global;
 use vch_base::Code;
+use vch_base::codes::{
+    KERN_FAILURE, KERN_INVALID_ARGUMENT, KERN_INVALID_CAPABILITY, KERN_INVALID_NAME,
+    KERN_NO_ACCESS, KERN_RESOURCE_SHORTAGE, MACH_RCV_TIMED_OUT, MACH_SEND_INVALID_DEST,
+    MACH_SEND_INVALID_VOUCHER, MACH_SEND_TIMED_OUT, MIG_ARRAY_TOO_LARGE,
+};
 use vch_model::{Entry, Reply, Word};
 use vch_text::{end, is_word, word};
 
@@ -48,6 +53,9 @@ fn verb(word: &[u8]) -> Option<Word>
     if is_word(word, b"live") {
         return Some(Word::Live);
     }
+    if is_word(word, b"exit") {
+        return Some(Word::Exit);
+    }
     None
 }
 
@@ -57,37 +65,59 @@ fn code(word: &[u8]) -> Option<Code>
     ensures { Finds (λ x. x) result (replies.code_of word.now) }
 {
     if is_word(word, b"4") {
-        return Some(Code { number: 4 });
+        return Some(Code {
+            number: KERN_INVALID_ARGUMENT,
+        });
     }
     if is_word(word, b"5") {
-        return Some(Code { number: 5 });
+        return Some(Code {
+            number: KERN_FAILURE,
+        });
     }
     if is_word(word, b"6") {
-        return Some(Code { number: 6 });
+        return Some(Code {
+            number: KERN_RESOURCE_SHORTAGE,
+        });
     }
     if is_word(word, b"8") {
-        return Some(Code { number: 8 });
+        return Some(Code {
+            number: KERN_NO_ACCESS,
+        });
     }
     if is_word(word, b"15") {
-        return Some(Code { number: 15 });
+        return Some(Code {
+            number: KERN_INVALID_NAME,
+        });
     }
     if is_word(word, b"20") {
-        return Some(Code { number: 20 });
+        return Some(Code {
+            number: KERN_INVALID_CAPABILITY,
+        });
     }
     if is_word(word, b"-307") {
-        return Some(Code { number: -307 });
+        return Some(Code {
+            number: MIG_ARRAY_TOO_LARGE,
+        });
     }
     if is_word(word, b"268435459") {
-        return Some(Code { number: 268435459 });
+        return Some(Code {
+            number: MACH_SEND_INVALID_DEST,
+        });
     }
     if is_word(word, b"268435460") {
-        return Some(Code { number: 268435460 });
+        return Some(Code {
+            number: MACH_SEND_TIMED_OUT,
+        });
     }
     if is_word(word, b"268435461") {
-        return Some(Code { number: 268435461 });
+        return Some(Code {
+            number: MACH_SEND_INVALID_VOUCHER,
+        });
     }
     if is_word(word, b"268451843") {
-        return Some(Code { number: 268451843 });
+        return Some(Code {
+            number: MACH_RCV_TIMED_OUT,
+        });
     }
     None
 }
@@ -210,6 +240,7 @@ fn small_answer(verb: Word, rest: &[u8]) -> Option<Reply>
         Word::Ledger => ledger(rest),
         Word::Assertions => assertions(rest),
         Word::Live => live(rest),
+        Word::Exit => done(rest),
     }
 }
 

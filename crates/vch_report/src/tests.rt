@@ -1,14 +1,7 @@
-ghost use Rattle.std.specs.Prelude.{◌≡◌, [], ◌∷◌, IfOk};
-ghost use Rattle.vch_base.specs.Managers.{no_flags};
-ghost use Rattle.vch_model.specs.Canonical.{IsWritable};
-ghost use Rattle.vch_model.specs.UserOnly.{IsUserOnly};
-
-use crate::{ReportFault, read, report_of, write};
+use crate::{ReportFault, read, write};
 use std::alloc::Global;
 use std::test::Fail;
-use vch_base::{Flags, NoMemory};
-use vch_model::{FlagList, LineList, PhaseList, Scenario};
-use vch_state::Core;
+use vch_base::NoMemory;
 
 /// A task that makes a voucher and drops it.
 const FIRST: &str = "\
@@ -17,15 +10,6 @@ made 7 user 6162
 call 1 1 create 0 1
 call 1 2 drop 0
 released 1
-phase
-task 1 ledger 0 held 0 out 0
-vouchers 0 values 1
-end
-";
-
-/// A run of one task without a call.
-const STILL: &str = "\
-report 1
 phase
 task 1 ledger 0 held 0 out 0
 vouchers 0 values 1
@@ -61,7 +45,59 @@ vouchers 0 values 1
 end
 ";
 
-/// Lines that may stand between the title and the first task.
+/// A run with a value at the key of tests, and one at that of user data with the same bytes.
+const TEST_KEY: &str = "\
+report 2
+made 8 user 6162
+made 7 user 6162
+call 1 1 create 0 1
+call 1 2 extract 0 6162
+call 1 3 recipes 0 whole 07000000d30000000000000002000000616208000000d300000000000000020000006162
+call 1 4 create 0 1
+call 1 5 drop 0
+call 1 6 drop 0
+released 2
+released 1
+phase
+task 1 ledger 0 held 0 out 0
+vouchers 0 values 1
+end
+";
+
+/// Two tasks that give up all that they have.
+const EXITS: &str = "\
+report 2
+made 7 user 6162
+call 1 1 create 0 1
+call 1 2 send 0
+call 1 3 send 268435460
+gone 1 1
+call 1 4 exit 0
+lost 2
+released 1
+call 2 1 exit 0
+call 1 5 drop 15
+phase
+task 1 ledger 0 held 0 out 0
+task 2 ledger 0 held 0 out 0
+vouchers 0 values 1
+end
+";
+
+/// Lines that may stand between the title and the first task in version 2 alone.
+const LATER: [&str; 9] = [
+    "made 8 user 6162",
+    "made 8 user -",
+    "gone 1 1",
+    "gone 4294967295 4294967295",
+    "lost 1",
+    "lost 4294967295",
+    "call 1 1 exit 0",
+    "call 1 1 exit 6",
+    "call 2 3 exit -307",
+];
+
+/// Lines that may stand between the title and the first task in both versions.
 const GOOD: [&str; 12] = [
     "made 2 list 1,2,3,4,5,6,7,8",
     "made 7 user -",
@@ -78,7 +114,7 @@ const GOOD: [&str; 12] = [
 ];
 
 /// Lines that may stand nowhere.
-const BAD: [&str; 36] = [
+const BAD: [&str; 52] = [
     "",
     "phase ",
     "phase\r",
@@ -100,7 +136,11 @@ const BAD: [&str; 36] = [
     "made 3 default",
     "made 3 task 01",
     "made 3 account 1",
-    "made 8 user 61",
+    "made 9 user 61",
+    "made 08 user 61",
+    "made 8 list 1",
+    "made 8 task 1",
+    "made 8 user 6A",
     "call 1 1 create 0",
     "call 1 1 create 1",
     "call 1 1 create 4 1",
@@ -115,14 +155,33 @@ const BAD: [&str; 36] = [
     "call 1 1 recipes 0 all -",
     "call 1 1 live 0 18446744073709551616 0",
     "call 1 1 ledger 0 340282366920938463463374607431768211456",
+    "gone 0 1",
+    "gone 1 0",
+    "gone 1",
+    "gone 1 4294967296",
+    "gone 1 1 1",
+    "lost 0",
+    "lost",
+    "lost 1 1",
+    "lost 01",
+    "call 1 1 exit",
+    "call 1 1 exit 0 1",
+    "call 1 1 exit 7",
 ];
 
 /// Whole texts, and the first line of each that can't stand.
-const TEXTS: [(&str, u32); 16] = [
+const TEXTS: [(&str, u32); 23] = [
     ("", 1),
     ("\n", 1),
-    ("report 2\n", 1),
+    ("report 0\n", 1),
+    ("report 3\n", 1),
+    ("report 02\n", 1),
+    ("report\n", 1),
+    ("report 1 \n", 1),
+    ("report 1 2\n", 1),
     ("report 1\n", 2),
+    ("report 2\n", 2),
+    ("report 2\nreport 2\n", 2),
     ("report 1\nreport 1\n", 2),
     ("report 1\nvouchers 0 values 1\n", 2),
     ("report 1\nend\n", 2),
@@ -184,26 +243,36 @@ fn whole_texts(rt: HostRuntime) -> Result<(), Fail> {
     let alloc = rt.alloc();
     assert_eq!(rt; fault(alloc, FIRST.as_bytes()), Some(0));
     assert_eq!(rt; fault(alloc, SERVICE.as_bytes()), Some(0));
+    assert_eq!(rt; fault(alloc, TEST_KEY.as_bytes()), Some(0));
+    assert_eq!(rt; fault(alloc, EXITS.as_bytes()), Some(0));
     for (text, line) in TEXTS {
         assert_eq!(rt; fault(alloc, text.as_bytes()), Some(line), "{text}");
     }
     Ok(())
 }
 
+/// The fault of a report of the version that has this one line before its task.
+fn fault_of_line(alloc: Global, version: u32, line: &str) -> Option<u32> {
+    let text = format!(in alloc;
+        "report {version}\n{line}\ntask 1 ledger 0 held 0 out 0\nvouchers 0 values 1\nend\n"
+    ).ok()?;
+    fault(alloc, text.as_bytes())
+}
+
 #[test]
 fn single_lines(rt: HostRuntime) -> Result<(), Fail> {
     let alloc = rt.alloc();
-    for line in GOOD {
-        let text = format!(in alloc;
-            "report 1\n{line}\ntask 1 ledger 0 held 0 out 0\nvouchers 0 values 1\nend\n"
-        )?;
-        assert_eq!(rt; fault(alloc, text.as_bytes()), Some(0), "{line}");
+    for version in 1..3 {
+        for line in GOOD {
+            assert_eq!(rt; fault_of_line(alloc, version, line), Some(0), "{line}");
+        }
+        for line in BAD {
+            assert_eq!(rt; fault_of_line(alloc, version, line), Some(2), "{line}");
+        }
     }
-    for line in BAD {
-        let text = format!(in alloc;
-            "report 1\n{line}\ntask 1 ledger 0 held 0 out 0\nvouchers 0 values 1\nend\n"
-        )?;
-        assert_eq!(rt; fault(alloc, text.as_bytes()), Some(2), "{line}");
+    for line in LATER {
+        assert_eq!(rt; fault_of_line(alloc, 1, line), Some(2), "{line}");
+        assert_eq!(rt; fault_of_line(alloc, 2, line), Some(0), "{line}");
     }
     Ok(())
 }
@@ -245,45 +314,4 @@ fn shown_faults(rt: HostRuntime) -> Result<(), Fail> {
     let memory = format!(in alloc; "{}", ReportFault::from(NoMemory::beyond(1, 1, 1)))?;
     assert_eq!(rt; memory.as_str(), "no memory");
     Ok(())
-}
-
-/// A scenario of one task and one phase without a call.
-fn still(alloc: Global) -> Result<Scenario, NoMemory>
-    ensures flags { IfOk result (λ sc. sc.flags ≡ no_flags ∷ []) }
-    ensures phases { IfOk result (λ sc. sc.phases ≡ [] ∷ []) }
-{
-    let mut flags = FlagList::new(alloc);
-    flags.push(Flags {
-        donor: false,
-        receiver: false,
-    })?;
-    let mut phases = PhaseList::new(alloc);
-    phases.push(LineList::new(alloc))?;
-    Ok(Scenario { flags, phases })
-}
-
-/// A core at its start.
-fn started(alloc: Global) -> Result<Core, NoMemory>
-    ensures built { IfOk result (λ core. IsUserOnly core.scenario) }
-    ensures writable { IfOk result (λ core. IsWritable core.scenario) }
-{
-    let scenario = still(alloc)?;
-    Core::start(alloc, &scenario)
-}
-
-#[test]
-fn report_of_a_core_that_has_ended(rt: HostRuntime) {
-    let alloc = rt.alloc();
-    let Ok(mut core) = started(alloc) else {
-        panic!(rt; "no memory");
-    };
-    assert!(rt; core.next_phase());
-    assert!(rt; core.ended());
-    let Ok(report) = report_of(alloc, &core) else {
-        panic!(rt; "no memory");
-    };
-    let Ok(text) = write(alloc, &report) else {
-        panic!(rt; "no memory");
-    };
-    assert_eq!(rt; text.as_slice(), STILL.as_bytes());
 }

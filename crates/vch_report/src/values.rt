@@ -28,17 +28,17 @@ fn chain(word: &[u8]) -> Option<Chain>
     Some(list)
 }
 
-/// `user HEX`, behind the key 7.
+/// `user HEX`, behind a key of user data.
 #[tactic(auto, unfolding(crate::specs::Values::user_of))]
-fn user(alloc: Global, rest: &[u8]) -> Result<Entry, Stop>
-    ensures { Gives (λ x. x) result (values.user_of rest.now) }
+fn user(alloc: Global, key: u32, rest: &[u8]) -> Result<Entry, Stop>
+    ensures { Gives (λ x. x) result (values.user_of key rest.now) }
 {
     let Some(rest) = after(b"user", rest) else {
         return Err(Stop::Fault);
     };
     let bytes = bytes_in(alloc, rest)?;
     Ok(Entry::Made {
-        key: 7,
+        key,
         value: Value::User { bytes },
     })
 }
@@ -109,7 +109,10 @@ pub fn made(alloc: Global, rest: &[u8]) -> Result<Entry, Stop>
         return Err(Stop::Fault);
     };
     if is_word(key, b"7") {
-        return user(alloc, rest);
+        return user(alloc, 7, rest);
+    }
+    if is_word(key, b"8") {
+        return user(alloc, 8, rest);
     }
     if is_word(key, b"2") {
         return list(rest).ok_or(Stop::Fault);

@@ -2,7 +2,8 @@ ghost use Rattle.std.specs.Prelude.{◌≡◌, ◌++◌, OnOk, IfOk, length, map
 ghost use Rattle.std.specs.List.{flat_map, join_with_byte, AllByRecursion};
 ghost use Rattle.std.specs.Fmt.{decimal};
 ghost use Rattle.vch_model.specs.Text.{word_text, reply_text, value_text, entry_text, entry_line, total_line, total_lines, last_lines};
-ghost use Rattle.vch_report.specs.WellFormed.{IsWellFormed, IsRanged, IsEntry};
+ghost use Rattle.vch_model.specs.WellFormed.{IsRanged};
+ghost use Rattle.vch_report.specs.WellFormed.{IsWellFormed, Making};
 ghost use Rattle.vch_report.specs.Items.{text_of};
 
 use crate::Report;
@@ -27,6 +28,7 @@ fn verb_text(word: Word) -> &'static [u8]
         Word::Ledger => b"ledger",
         Word::Assertions => b"assertions",
         Word::Live => b"live",
+        Word::Exit => b"exit",
     }
 }
 
@@ -118,7 +120,7 @@ fn push_value(alloc: Global, out: &mut Vec<u8>, value: &Value) -> Result<(), NoM
 
 /// Appends an entry without the end of its line.
 fn push_entry_text(alloc: Global, out: &mut Vec<u8>, entry: &Entry) -> Result<(), NoMemory>
-    requires { IsEntry entry.now }
+    requires { Making IsRanged entry.now }
     ensures { OnOk result (out.new.items ≡ out.old.items ++ entry_text entry.now) }
 {
     match entry {
@@ -145,13 +147,22 @@ fn push_entry_text(alloc: Global, out: &mut Vec<u8>, entry: &Entry) -> Result<()
             push_text(out, b"released")?;
             push_spaced(out, *made)
         }
+        Entry::Gone { task, name } => {
+            push_text(out, b"gone")?;
+            push_spaced(out, *task)?;
+            push_spaced(out, *name)
+        }
+        Entry::Lost { task } => {
+            push_text(out, b"lost")?;
+            push_spaced(out, *task)
+        }
         Entry::Phase => push_text(out, b"phase"),
     }
 }
 
 /// Appends the line of an entry.
 fn push_entry(alloc: Global, out: &mut Vec<u8>, entry: &Entry) -> Result<(), NoMemory>
-    requires { IsEntry entry.now }
+    requires { Making IsRanged entry.now }
     ensures { OnOk result (out.new.items ≡ out.old.items ++ entry_line entry.now) }
 {
     push_entry_text(alloc, out, entry)?;
@@ -160,7 +171,7 @@ fn push_entry(alloc: Global, out: &mut Vec<u8>, entry: &Entry) -> Result<(), NoM
 
 /// Appends the lines of the entries.
 fn push_entries(alloc: Global, out: &mut Vec<u8>, history: &History) -> Result<(), NoMemory>
-    requires { AllByRecursion IsEntry history.now.entries }
+    requires { AllByRecursion (Making IsRanged) history.now.entries }
     ensures { OnOk result (out.new.items ≡ out.old.items ++ flat_map entry_line history.now.entries) }
 {
     for i in 0..history.len() {
@@ -207,7 +218,7 @@ fn push_last(out: &mut Vec<u8>, vouchers: u64, values: u64) -> Result<(), NoMemo
     push_text(out, b"end\n")
 }
 
-/// The text of a report. The one error is want of memory.
+/// The text of a report. The one error is out of memory.
 ///
 /// It goes over the report once and appends to one buffer, in time that grows with the text. The
 /// digits of a number are made in place; those of bytes are made apart and copied.
@@ -216,7 +227,9 @@ pub fn write(alloc: Global, report: &Report) -> Result<Vec<u8>, NoMemory>
     ensures { IfOk result (λ text. text.items ≡ text_of report.now) }
 {
     let mut out = Vec::new(alloc);
-    push_text(&mut out, b"report 1\n")?;
+    push_text(&mut out, b"report")?;
+    push_spaced(&mut out, report.version)?;
+    push_text(&mut out, b"\n")?;
     push_entries(alloc, &mut out, &report.history)?;
     push_totals(&mut out, &report.totals)?;
     push_last(&mut out, report.vouchers, report.values)?;
