@@ -3,7 +3,7 @@ use Rattle.std.proofs.Common.{◌≡◌, ◌≤◌, ℕ, List, ◌++◌, length,
 use Rattle.std.specs.Io.KnownBytes.{Consumes, IsAtEnd}
 use Rattle.vch_replay.specs.declared.command.Command.{Command}
 use Rattle.vch_replay.specs.Input.{limit, GaveTooMuch}
-use Rattle.vch_replay.specs.Output.{WritesPrefix}
+use Rattle.vch_base.specs.Stream.{WritesPrefix}
 use Rattle.vch_replay.specs.Run.{IsIn, Refuses, WritesPart, IsGood}
 
 -- short input is not too long

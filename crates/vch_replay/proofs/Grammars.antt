@@ -5,12 +5,12 @@ use Rattle.vch_recipe.specs.declared.fault.RecipeFault.{RecipeFault}
 use Rattle.vch_recipe.specs.declared.fault.RecipeFault.TheVariants as recipe_faults
 use Rattle.vch_recipe.specs.Recipes.{Recipes}
 use Rattle.vch_recipe.specs.Cuts.{IsOutcome, IsOutOfMemory, IsUnlessMemory}
-use Rattle.vch_recipe.proofs.Outcomes.{one_outcome}
+use Rattle.vch_recipe.proofs.CallerLemmas.{one_outcome}
 use Rattle.vch_model.specs.declared.lists.Scenario.{Scenario}
 use Rattle.vch_model.specs.Scenarios.{IsScenario}
 use Rattle.vch_model.specs.UserOnly.{IsUserOnly}
-use Rattle.vch_header.proofs.Translations as translations
-use Rattle.vch_scenario.proofs.OneAnswer.{never_both, one_scenario}
+use Rattle.vch_header.proofs.CallerLemmas as translations
+use Rattle.vch_scenario.proofs.CallerLemmas.{never_both, one_scenario}
 use Rattle.vch_replay.specs.declared.command.Command.{Command}
 use Rattle.vch_replay.specs.declared.command.Command.TheVariants as commands
 use Rattle.vch_replay.specs.Run.{IsIn, Refuses, IsScenarioFault, IsNotBuilt, IsArray, IsArrayFault}

@@ -1,4 +1,3 @@
-pub mod Written
 pub mod Joined
 pub mod Ends
 pub mod Grammars

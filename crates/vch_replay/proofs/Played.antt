@@ -14,8 +14,8 @@ use Rattle.vch_machine.specs.State.{Machine, start}
 use Rattle.vch_machine.specs.Schedules.{Move, in_turn, by_seed}
 use Rattle.vch_machine.specs.EndedRuns.{EndsWith}
 use Rattle.vch_machine.specs.PlainRuns.{TellNoWant, IsPlainRun}
-use Rattle.vch_machine.proofs.WithoutWant.{without_want}
-use Rattle.vch_legal.proofs.Runs.{run_whole}
+use Rattle.vch_machine.proofs.CallerLemmas.{without_want}
+use Rattle.vch_legal.proofs.CallerLemmas.{run_whole}
 use Rattle.vch_state.specs.declared.parts.Parts.{Parts}
 use Rattle.vch_state.specs.Stands.{StandsFor}
 use Rattle.vch_state.specs.Bounds.{Limited}
@@ -48,7 +48,7 @@ whole_of : (sc : Scenario) (moves : List Move) (history : List Entry) → EndsWi
 whole_of sc moves history e = subst (λ h. Whole h sc) (sym e.history_is) (run_whole sc moves e.m e.run e.ended)
 
 text_is : (sc : Scenario) (history : List Entry) (report : Report) (text : List ℕ) → Tells sc history report → text ≡ text_of report → text ≡ Text history sc
-text_is sc history report text t e = e ∙ rw (t.entries, t.totals, t.vouchers, t.values) refl
+text_is sc history report text t e = e ∙ rw (t.version, t.entries, t.totals, t.vouchers, t.values) refl
 
 pub turn_report : (sc : Scenario) (p q : Parts) (report : Report) (text : List ℕ) → p.scenario ≡ sc → Stands p (start sc) → EndsInTurn p q → Tells q.scenario q.history.entries report → text ≡ text_of report → IsTurnReport sc text
 turn_report sc p q report text same s f t e =

@@ -1,5 +1,4 @@
 pub mod Input
-pub mod Output
 pub mod Commands
 pub mod Lines
 pub mod Run

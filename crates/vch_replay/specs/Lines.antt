@@ -48,7 +48,7 @@ header_fault at left = codes "fault header at" ++ spaced at ++ codes " left" ++ 
 abbrev pub content_fault : ℕ → ℕ → ℕ → List ℕ
 content_fault at wanted left = codes "fault content at" ++ spaced at ++ codes " wanted" ++ spaced wanted ++ codes " left" ++ spaced left ++ newline
 
--- the first fault of a recipe array; want of memory has no line
+-- the first fault of a recipe array; out of memory has no line
 abbrev pub recipe_fault : RecipeFault → Option (List ℕ)
 recipe_fault (recipe_faults.TooLarge size) = Some (size_fault size)
 recipe_fault (recipe_faults.HeaderCut at left) = Some (header_fault at left)

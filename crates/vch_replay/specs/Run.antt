@@ -20,7 +20,7 @@ use Rattle.vch_header.specs.declared.fault.MessageFault.{MessageFault}
 use Rattle.vch_scenario.specs.Faults as scenario_faults
 use Rattle.vch_scenario.specs.declared.fault.Why.{Why}
 use Rattle.vch_replay.specs.Input.{limit}
-use Rattle.vch_replay.specs.Output.{WritesPrefix}
+use Rattle.vch_base.specs.Stream.{WritesPrefix}
 use Rattle.vch_replay.specs.Lines.{recipe_text, scenario_fault, message_fault, not_built, recipe_fault}
 use Rattle.vch_replay.specs.declared.command.Command.{Command}
 use Rattle.vch_replay.specs.declared.command.Command.TheVariants as commands
@@ -36,7 +36,7 @@ pub record IsReportOf (sc : Scenario) (history : List Entry) (text : List ℕ) :
   pub whole : Whole history sc
   pub text_is : text ≡ Text history sc
 
--- of its run in turn; where no reply says that memory was wanted, that is the plain run
+-- of its run in turn; where no reply says that memory was out, that is the plain run
 pub record IsTurnReport (sc : Scenario) (text : List ℕ) : Type 0 where
   pub history : List Entry
   pub report : IsReportOf sc history text

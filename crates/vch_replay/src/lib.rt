@@ -13,7 +13,6 @@ mod header;
 mod input;
 mod listing;
 mod outcome;
-mod output;
 mod play;
 mod recipe;
 mod run;

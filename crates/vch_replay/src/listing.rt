@@ -80,7 +80,7 @@ fn content_line(alloc: Global, at: usize, wanted: u32, left: usize) -> Result<Ve
     Ok(out)
 }
 
-/// The line of the first fault of a recipe array. Where that is want of memory, there is none, and it is passed on.
+/// The line of the first fault of a recipe array. Where that is out of memory, there is none, and it is passed on.
 pub fn recipe_fault_line(alloc: Global, fault: RecipeFault) -> Result<Vec<u8>, NoMemory>
     ensures { IfOk result (λ line. lines.recipe_fault fault ≡ Some line.items) }
 {

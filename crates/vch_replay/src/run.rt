@@ -8,10 +8,9 @@ ghost use Rattle.vch_replay.specs.Run.{Comes, WritesAnswer, WritesRefusal, Write
 use crate::command::{Command, command_of};
 use crate::input::{InputFault, read_all};
 use crate::outcome::Outcome;
-use crate::output::write_all;
 use crate::{check, header, play, recipe};
 use std::alloc::Global;
-use vch_base::{NoMemory, Sink, Source};
+use vch_base::{NoMemory, Sink, Source, write_all};
 
 /// What a command comes to. Its text, or its line, is made whole.
 fn perform(alloc: Global, command: Command, input: &[u8]) -> Result<Outcome, NoMemory>
@@ -46,7 +45,7 @@ fn out_of_memory(_cause: NoMemory) -> u8
 /// | 2 | the input is not in the grammar, can't be run yet, or has a header that is refused; one line says why |
 /// | 3 | the source failed |
 /// | 4 | the sink failed; a prefix of the text or of the line was written |
-/// | 5 | want of memory |
+/// | 5 | out of memory |
 /// | 6 | the source gave more than 4,194,304 bytes |
 pub fn run_plain<S: Source, K: Sink>(
     alloc: Global,

@@ -1,6 +1,5 @@
 -- The text of a drill. It is this project's own.
-use Rattle.std.specs.Prelude.{◌≤◌, ℕ, ◌*◌, min, List, ◌++◌, length, take, Option, codes}
-use Rattle.vch_base.specs.Stream.{Extends}
+use Rattle.std.specs.Prelude.{ℕ, ◌*◌, min, List, ◌++◌, codes}
 use Rattle.vch_model.specs.Text.{spaced, newline}
 use Rattle.vouch_drill.specs.Counts.{slot_count}
 use Rattle.vouch_drill.specs.declared.counts.Counts.{Counts}
@@ -16,7 +15,3 @@ counts_text rounds counts =
 -- two seats do n makes each, none of a released slot; then each slot with a count is released, and nobody races
 unfoldable pub made_text : ℕ → List ℕ
 made_text n = counts_text n (record { makes = 2 * n; dead = 0; released = min n slot_count; raced = 0 })
-
--- a prefix of the text was written, where it is told
-abbrev pub WritesPrefix : Option (List ℕ) → Option (List ℕ) → List ℕ → Type 0
-WritesPrefix old new text = (n : ℕ) × (n ≤ length text) × Extends old new (take n text)

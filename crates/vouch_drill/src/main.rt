@@ -7,7 +7,6 @@
 
 mod counts;
 mod made;
-mod output;
 mod run;
 mod stream;
 mod text;

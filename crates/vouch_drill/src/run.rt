@@ -1,15 +1,14 @@
 ghost use Rattle.std.specs.Prelude.{◌≡◌, ◌≤◌, ◌⊎◌, ◌↔◌, ℕ, IfOk, map, string_bytes};
-ghost use Rattle.vch_base.specs.Stream.{Extends, Rose};
+ghost use Rattle.vch_base.specs.Stream.{Extends, Rose, WritesPrefix};
 ghost use Rattle.vouch_drill.specs.Words.{most_rounds, AsksMade, IsNoForm};
-ghost use Rattle.vouch_drill.specs.Text.{made_text, WritesPrefix};
+ghost use Rattle.vouch_drill.specs.Text.{made_text};
 
 use crate::made::count_rounds;
-use crate::output::write_all;
 use crate::text::counts_text;
 use crate::words::made_rounds;
 use std::alloc::Global;
 use std::thread::Threads;
-use vch_base::{Gate, NoMemory, Sink};
+use vch_base::{Gate, NoMemory, Sink, write_all};
 
 /// The text of so many rounds, made whole.
 #[tactic(auto, unfolding(crate::specs::Text::made_text))]

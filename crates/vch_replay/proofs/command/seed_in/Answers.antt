@@ -1,6 +1,6 @@
 use Rattle.std.proofs.Common.{◌^◌, arith, ap, ◌∙◌, sym}
 use Rattle.vch_report.specs.Numerals.{below}
-use Rattle.vch_report.proofs.Belows.{below_again, below_none}
+use Rattle.vch_report.proofs.CallerLemmas.{below_again, below_none}
 use Rattle.vch_replay.proofs.command.seed_in.Goals as goal
 
 pub returns-in_err-n : goal.returns-in_err-n

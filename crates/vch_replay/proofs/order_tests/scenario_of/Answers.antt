@@ -1,4 +1,4 @@
-use Rattle.vch_scenario.proofs.Writables.{scenario_writable}
+use Rattle.vch_scenario.proofs.CallerLemmas.{scenario_writable}
 use Rattle.vch_replay.proofs.order_tests.scenario_of.Goals as goal
 
 pub returns-in-Ok : goal.returns-in-Ok

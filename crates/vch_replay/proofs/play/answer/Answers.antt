@@ -1,4 +1,4 @@
-use Rattle.vch_scenario.proofs.Writables.{scenario_writable}
+use Rattle.vch_scenario.proofs.CallerLemmas.{scenario_writable}
 use Rattle.vch_replay.proofs.play.answer.Goals as goal
 
 pub report_text-requires-clause-writable : goal.report_text-requires-clause-writable

@@ -1,7 +1,7 @@
 use Rattle.std.proofs.Common.{rules, ◌≡◌, List, ℕ, map, string_bytes, subst, sym, ◌∙◌, Some, Option, IfSome}
 use Rattle.vch_replay.specs.declared.command.Command.{Command}
 use Rattle.vch_replay.specs.Commands.{command_of}
-use Rattle.vch_replay.specs.Output.{WritesPrefix}
+use Rattle.vch_base.specs.Stream.{WritesPrefix}
 use Rattle.vch_replay.specs.Run.{IsGood, Refuses, WritesPart}
 use Rattle.vch_replay.proofs.Ends.{good_short, part_refused, good_refused}
 use Rattle.vch_replay.proofs.Grammars.{apart}
