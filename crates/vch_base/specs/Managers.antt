@@ -91,12 +91,12 @@ flags_in None t = no_flags
 flags_in (Some flags) t = at_task flags t no_flags
 
 -- what SEND_PREPROCESS makes of a value where the task s sends it
-abbrev pub sent : ℕ → Value → Value
-sent s (values.User bytes) = values.User bytes
-sent s (values.Chain list) = values.Chain list
-sent s values.Default = values.Task s
-sent s (values.Task t) = values.Task t
-sent s (values.Account holder merchant) = values.Task holder
+abbrev pub preprocessed : ℕ → Value → Value
+preprocessed s (values.User bytes) = values.User bytes
+preprocessed s (values.Chain list) = values.Chain list
+preprocessed s values.Default = values.Task s
+preprocessed s (values.Task t) = values.Task t
+preprocessed s (values.Account holder merchant) = values.Task holder
 
 -- what AUTO_REDEEM makes of a value where the task r, a receiver of importance or not, receives it
 abbrev pub received : Bool → ℕ → Value → Value
@@ -130,7 +130,7 @@ own_answer keys.Importance tasks by command previous content =
 own_answer keys.Bank tasks by command previous content =
     if command == commands.BANK_CREATE then bare content (Some values.Default)
     else if command == commands.AUTO_REDEEM then bare content (mapped (received (flags_in tasks by).receiver by) previous)
-    else if command == commands.SEND_PREPROCESS then bare content (mapped (sent by) previous)
+    else if command == commands.SEND_PREPROCESS then bare content (mapped (preprocessed by) previous)
     else Err KERN_INVALID_ARGUMENT
 
 -- a value, none, or code 4

@@ -8,7 +8,7 @@ use Rattle.vch_model.specs.Scenarios.{line_count}
 use Rattle.vch_machine.specs.State.{Machine, start}
 use Rattle.vch_machine.specs.Events.{ready}
 use Rattle.vch_machine.specs.Schedules.{Move, happens, run, run_from_start, in_turn, by_seed, move_of, lowest_open, turn_task, picked, seed_after, has_ended}
-use Rattle.vch_legal.specs.Left.{left, largest_call}
+use Rattle.vch_legal.specs.Left.{work_left, largest_call}
 use Rattle.vch_legal.proofs.CallerLemmas.{reached_stands, move_lowers, run_bounded, start_few}
 use Rattle.vch_state.specs.declared.parts.Parts.{Parts}
 use Rattle.vch_state.specs.Reached.{Reached, Stands}
@@ -26,13 +26,13 @@ pub record Spares (p : Parts) (count : ℕ) : Type 0 where
   pub m : Machine
   pub run : run_from_start p.scenario moves ≡ Some m
   pub stands : Stands p m
-  pub few : left p.scenario m + count < 1099511627776
+  pub few : work_left p.scenario m + count < 1099511627776
 
 pub spares_first : (p : Parts) → Reached p → Spares p 0
 spares_first p r =
     let x = reach p r in
-    let a : length x.moves + left p.scenario x.m ≤ left p.scenario (start p.scenario) = run_bounded p.scenario x.moves x.m x.run in
-    let b : left p.scenario (start p.scenario) ≤ largest_call * line_count p.scenario.phases + length p.scenario.phases = start_few p.scenario in
+    let a : length x.moves + work_left p.scenario x.m ≤ work_left p.scenario (start p.scenario) = run_bounded p.scenario x.moves x.m x.run in
+    let b : work_left p.scenario (start p.scenario) ≤ largest_call * line_count p.scenario.phases + length p.scenario.phases = start_few p.scenario in
     let c = x.limited.calls in
     let d = x.limited.phases in
     record { moves = x.moves; m = x.m; run = x.run; stands = x.state; few = omega (arith, a, b, c, d) }
@@ -43,14 +43,14 @@ choice_move want choice = move_of (λ _. want) 0 choice
 pub spares_more : (p q : Parts) (choice : Option ℕ) (count : ℕ) → Goes choice p q → Spares p count → Spares q (count + 1)
 spares_more p q choice count f s =
     let y = f.move s.m s.stands in
-    let a : left p.scenario y.0 + 1 ≤ left p.scenario s.m = move_lowers p.scenario s.m y.0 (choice_move f.want choice) (reached_stands p.scenario s.moves s.m s.run) y.1 in
+    let a : work_left p.scenario y.0 + 1 ≤ work_left p.scenario s.m = move_lowers p.scenario s.m y.0 (choice_move f.want choice) (reached_stands p.scenario s.moves s.m s.run) y.1 in
     let b = s.few in
     record {
       moves = s.moves ++ choice_move f.want choice ∷ [];
       m = y.0;
       run = subst (λ sc. run_from_start sc (s.moves ++ choice_move f.want choice ∷ []) ≡ Some y.0) (sym f.scenario) (run_on p.scenario s.moves (Some (start p.scenario)) s.m y.0 (choice_move f.want choice) s.run y.1);
       stands = y.2;
-      few = subst (λ sc. left sc y.0 + (count + 1) < 1099511627776) (sym f.scenario) (omega (arith, a, b));
+      few = subst (λ sc. work_left sc y.0 + (count + 1) < 1099511627776) (sym f.scenario) (omega (arith, a, b));
     }
 
 pub never_spent : (p : Parts) (count : ℕ) → 1099511627776 ≤ count → Spares p count → ⊥

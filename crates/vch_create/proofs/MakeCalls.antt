@@ -42,7 +42,7 @@ use Rattle.vch_state.specs.Plain.{frame_of, begun_of}
 use Rattle.vch_state.specs.Reached.{plain_of, parts_in, IsNext, Reached, Stands, value_kind}
 use Rattle.vch_create.specs.declared.question.Question.{Question}
 use Rattle.vch_create.proofs.Codes.{own_refusal}
-use Rattle.vch_create.specs.Makes.{Answers, HasRoom, IsAsked, IsMadeEntry, IsQuestion, receipts_in}
+use Rattle.vch_create.specs.Makes.{MakeAnswers, HasRoom, IsAsked, IsMadeEntry, IsQuestion, receipts_in}
 use Rattle.vch_create.proofs.MakeNext.{asking, makes_seen}
 use Rattle.vch_create.proofs.AskFacts.{flights_are, flights_few, handles_few, made_few, previous_there, previous_is_live, long_is, reply, reply_is, asked_is}
 use Rattle.vch_create.proofs.WorkNext.{reached_state, state_of, frames_range}
@@ -126,7 +126,7 @@ module _ (p : Parts) (t : ℕ) (task : is_task p.scenario t ≡ true) (next : Is
         → value_calls.Makes p.user (answer p.user.rules t q.command (managers.previous_of p.user.slots (previous_handle p.user_entries.slots q.previous)) content) result kept2
         → (e2.slots ≡ p.user_entries.slots) × (p.user_entries.spare ≤ e2.spare)
         → ((x : Picture) → length x.receipts ≡ flying → picture.Stands x p.user_entries p.user → picture.Stands (got_picture (got_of result) x) e2 kept2)
-        → Answers t result p (record p { user_entries = e2; user = kept2 })
+        → MakeAnswers t result p (record p { user_entries = e2; user = kept2 })
     ask_answers built content read flying tasks count all rules result e2 kept2 makes places stands = record { others = refl; slots = places.0; places = places.1; own = own_refusal p.user kept2 t q.command _ content result makes; gives = gives }
       where
         gives : (m : Machine) → Stands p m → (reply : Result (Option Value) ℤ) × IsAsked p m t reply × value_calls.Makes p.user reply result kept2 × picture.Stands (got_picture (got_of result) (picture_of keys.User (plain_of p) m)) e2 kept2
@@ -179,7 +179,7 @@ past_few p reached = reached_state p _ reached (λ m st.
     omega (arith, a, b, d, e, f, g, h, i, j, k))
 
 -- and the handle of a value that was handed out has room for its number
-pub handle_few : (p : Parts) → Reached p → (r : Receipt) (t : ℕ) (q : Parts) → HasRoom p → Answers t (Ok (made.Receipt r true)) p q → r.handle < length p.made.user
+pub handle_few : (p : Parts) → Reached p → (r : Receipt) (t : ℕ) (q : Parts) → HasRoom p → MakeAnswers t (Ok (made.Receipt r true)) p q → r.handle < length p.made.user
 handle_few p reached r t q room a = reached_state p _ reached (λ m st. value_is p.user q.user (a.gives m st).0 r true _ (a.gives m st).2 (λ x i.
     let s : StandsFor p.scenario (keys.User ∷ []) (plain_of p) m = (state_of p m st).1 in
     below p.user.free (free_handle p.scenario m keys.User p.user.slots p.user.free p.made.user s.fits s.keyed.0.free s.keyed.0.used s.keyed.0.living) i.handed.1.1))

@@ -28,7 +28,7 @@ use Rattle.vch_state.specs.Shape.{Indices}
 use Rattle.vch_state.specs.Reached.{plain_of, IsState, IsEventBy, IsNext, MayFollow, Reached, Stands, value_kind}
 use Rattle.vch_create.specs.Formed.{is_forming}
 use Rattle.vch_create.specs.Refusals.{IsRefusal}
-use Rattle.vch_create.specs.Makes.{Answers, IsAsked, IsLoss, IsRoomier}
+use Rattle.vch_create.specs.Makes.{MakeAnswers, IsAsked, IsLoss, IsRoomier}
 use Rattle.vch_create.proofs.MakeGives as gives
 use Rattle.vch_create.proofs.MakeGives.{nothing_is, refused_is, memory_is, IsValue, value_is}
 use Rattle.vch_create.proofs.MakeNext.{IsAsking, asking, Makes, makes_seen, next_moves}
@@ -37,7 +37,7 @@ use Rattle.vch_create.proofs.WorkNext.{reached_state}
 
 -- Where nothing but room changed.
 
-pub asked_roomier : (p q : Parts) (t : ℕ) (result : Result Made GetFault) → Answers t result p q → q.user ≡ p.user → IsRoomier p q
+pub asked_roomier : (p q : Parts) (t : ℕ) (result : Result Made GetFault) → MakeAnswers t result p q → q.user ≡ p.user → IsRoomier p q
 asked_roomier p q t result a e = record {
   scenario = ap (λ (x : Parts). x.scenario) a.others;
   phase = ap (λ (x : Parts). x.phase) a.others;
@@ -95,7 +95,7 @@ module _ (p : Parts) (t : ℕ) (task : is_task p.scenario t ≡ true) (next : Is
       ))
 
   -- by the manager
-  pub refused_follows : (q new : Parts) (code : Code) → Answers t (Err (fault.Refused code)) p q → IsRefusal t code.number q new → MayFollow kinds.Make t p new
+  pub refused_follows : (q new : Parts) (code : Code) → MakeAnswers t (Err (fault.Refused code)) p q → IsRefusal t code.number q new → MayFollow kinds.Make t p new
   unfolding IsEventBy
   refused_follows q new code a f = record { scenario = f.scenario ∙ ap (λ (x : Parts). x.scenario) a.others; want = false; event = event_then }
     where
@@ -113,13 +113,13 @@ module _ (p : Parts) (t : ℕ) (task : is_task p.scenario t ≡ true) (next : Is
           ))
 
   -- the manager keeps what it kept where it gave no value
-  pub refused_roomier : (q : Parts) (code : Code) → Answers t (Err (fault.Refused code)) p q → IsRoomier p q
+  pub refused_roomier : (q : Parts) (code : Code) → MakeAnswers t (Err (fault.Refused code)) p q → IsRoomier p q
   refused_roomier q code a = asked_roomier p q t _ a (reached_state p _ reached (λ m st. let b = a.gives m st in (refused_is p.user q.user b.0 code b.2).1))
 
-  pub memory_roomier : (q : Parts) (cause : NoMemory) → Answers t (Err (fault.NoMemory cause)) p q → IsRoomier p q
+  pub memory_roomier : (q : Parts) (cause : NoMemory) → MakeAnswers t (Err (fault.NoMemory cause)) p q → IsRoomier p q
   memory_roomier q cause a = asked_roomier p q t _ a (reached_state p _ reached (λ m st. let b = a.gives m st in memory_is p.user q.user b.0 cause b.2))
 
-  pub nothing_roomier : (q : Parts) → Answers t (Ok made.Nothing) p q → IsRoomier p q
+  pub nothing_roomier : (q : Parts) → MakeAnswers t (Ok made.Nothing) p q → IsRoomier p q
   nothing_roomier q a = asked_roomier p q t _ a (reached_state p _ reached (λ m st. let b = a.gives m st in (nothing_is p.user q.user b.0 b.2).1))
 
   -- No value.
@@ -128,7 +128,7 @@ module _ (p : Parts) (t : ℕ) (task : is_task p.scenario t ≡ true) (next : Is
   abbrev lost : Scenario → (m : Machine) (x : Frame) (v : Indices) (bytes : List ℕ) (rec : Recipe) (rest : List ℕ) (z : IsAsking p t x v bytes rec rest) (st : Stands p m) (g : machine.Frame) (w : Handles) → Makes p t task next idle_ m x v bytes rec g w → Machine
   lost sc m x v bytes rec rest z st g w y = make_done sc.version m t (gives.G p t task next idle_ x v bytes rec rest z m st g w y) w (calls.Create bytes) keys.User (Ok None)
 
-  pub nothing_follows : (q new : Parts) → Answers t (Ok made.Nothing) p q → IsLoss t q new → MayFollow kinds.Make t p new
+  pub nothing_follows : (q new : Parts) → MakeAnswers t (Ok made.Nothing) p q → IsLoss t q new → MayFollow kinds.Make t p new
   unfolding IsEventBy
   nothing_follows q new a f = record { scenario = f.scenario ∙ ap (λ (x : Parts). x.scenario) a.others; want = false; event = event_then }
     where

@@ -44,7 +44,7 @@ use Rattle.vch_state.specs.Bounds.{Spent, in_all, unanswered_in, begun_in, open_
 use Rattle.vch_state.specs.Stands.{StandsFor, IsLiving}
 use Rattle.vch_state.specs.Reached.{plain_of, parts_in, IsState, IsEventBy, IsNext, MayFollow, Reached, Stands, value_kind}
 use Rattle.vch_state.proofs.CallerLemmas.{put_taken, own_frame, in_parts, in_frames, taking_frame, framed, sum_bounded}
-use Rattle.vch_create.specs.Makes.{Answers, HasRoom, IsAsked, IsMadeEntry}
+use Rattle.vch_create.specs.Makes.{MakeAnswers, HasRoom, IsAsked, IsMadeEntry}
 use Rattle.vch_create.proofs.AskFacts.{reply, asked_is, W}
 use Rattle.vch_create.proofs.FreshLive.{found_handle, absent_handle, fresh_is, free_is, used_is, used_few, free_handle, living_again, living_new, stored, absent_previous, tasks_given}
 use Rattle.vch_create.proofs.MadeLive.{IsFree, count_again, live_again, count_new, length_new}
@@ -145,7 +145,7 @@ module _ (p : Parts) (t : ℕ) (task : is_task p.scenario t ≡ true) (next : Is
 
   -- A value that was live.
 
-  pub again_follows : Answers t (Ok (made.Receipt receipt false)) p (record p { user_entries = e2; user = k2 }) → MayFollow kinds.Make t p (record p { frames = frames2; user_entries = e2; user = k2 })
+  pub again_follows : MakeAnswers t (Ok (made.Receipt receipt false)) p (record p { user_entries = e2; user = k2 }) → MayFollow kinds.Make t p (record p { frames = frames2; user_entries = e2; user = k2 })
   unfolding IsEventBy IsState
   again_follows a = record { scenario = refl; want = false; event = event_then }
     where
@@ -185,7 +185,7 @@ module _ (p : Parts) (t : ℕ) (task : is_task p.scenario t ≡ true) (next : Is
 
   -- A fresh value.
 
-  module _ (entry : Entry) (h2 : rows.Entries) (has_room : HasRoom p) (is_entry : IsMadeEntry p t entry) (a : Answers t (Ok (made.Receipt receipt true)) p (record p { user_entries = e2; user = k2 }))
+  module _ (entry : Entry) (h2 : rows.Entries) (has_room : HasRoom p) (is_entry : IsMadeEntry p t entry) (a : MakeAnswers t (Ok (made.Receipt receipt true)) p (record p { user_entries = e2; user = k2 }))
       (pushed : h2.entries ≡ p.history.entries ++ entry ∷ []) (less : h2.spare + 1 ≡ p.history.spare) where
     abbrev numbers2 : Keyed (List ℕ)
     numbers2 = with_key keys.User (set p.made.user receipt.handle (length p.history.entries + 1)) p.made
@@ -295,9 +295,9 @@ module _ (p : Parts) (t : ℕ) (task : is_task p.scenario t ≡ true) (next : Is
   abbrev Gives : Parts → Type 0
   Gives x = IfSome (frame_of x.frames t) (λ f. new ≡ record x { frames = with_frame_of (with_frame_of x.frames t None) t (Some (record f { receipt = Some (record { key = keys.User; receipt = receipt }) })) })
 
-  pub again_given : Answers t (Ok (made.Receipt receipt false)) p q → Gives q → MayFollow kinds.Make t p new
+  pub again_given : MakeAnswers t (Ok (made.Receipt receipt false)) p q → Gives q → MayFollow kinds.Make t p new
   again_given a g = asking p t task next idle_ _ reached (λ f v bytes r rest z.
-      let b : Answers t (Ok (made.Receipt receipt false)) p (record p { user_entries = q.user_entries; user = q.user }) = subst (Answers t (Ok (made.Receipt receipt false)) p) a.others a in
+      let b : MakeAnswers t (Ok (made.Receipt receipt false)) p (record p { user_entries = q.user_entries; user = q.user }) = subst (MakeAnswers t (Ok (made.Receipt receipt false)) p) a.others a in
       let d : Gives (record p { user_entries = q.user_entries; user = q.user }) = subst Gives a.others g in
       subst (MayFollow kinds.Make t p) (sym (at f z.own d)) (again_follows p t task next idle_ built reached f z.own q.user_entries q.user receipt _ refl b))
     where
@@ -313,9 +313,9 @@ module _ (p : Parts) (t : ℕ) (task : is_task p.scenario t ≡ true) (next : Is
     abbrev noted : Parts
     noted = record p { user_entries = q.user_entries; user = q.user; history = n.history; made = with_key keys.User (set p.made.user receipt.handle (length p.history.entries + 1)) p.made }
 
-    pub fresh_given : Answers t (Ok (made.Receipt receipt true)) p q → Notes q → n.history.entries ≡ q.history.entries ++ entry ∷ [] → n.history.spare + 1 ≡ q.history.spare → Gives n → MayFollow kinds.Make t p new
+    pub fresh_given : MakeAnswers t (Ok (made.Receipt receipt true)) p q → Notes q → n.history.entries ≡ q.history.entries ++ entry ∷ [] → n.history.spare + 1 ≡ q.history.spare → Gives n → MayFollow kinds.Make t p new
     fresh_given a o pushed less g = asking p t task next idle_ _ reached (λ f v bytes r rest z.
-        let b : Answers t (Ok (made.Receipt receipt true)) p (record p { user_entries = q.user_entries; user = q.user }) = subst (Answers t (Ok (made.Receipt receipt true)) p) a.others a in
+        let b : MakeAnswers t (Ok (made.Receipt receipt true)) p (record p { user_entries = q.user_entries; user = q.user }) = subst (MakeAnswers t (Ok (made.Receipt receipt true)) p) a.others a in
         let is_noted : n ≡ noted = subst Notes a.others o in
         let d : Gives noted = subst Gives is_noted g in
         subst (MayFollow kinds.Make t p) (sym (at f z.own d)) (fresh_follows p t task next idle_ built reached f z.own q.user_entries q.user receipt _ refl entry n.history has_room is_entry b

@@ -8,7 +8,7 @@ use Rattle.vch_base.specs.Managers.{Kept, count, live_at}
 use Rattle.vch_entry.specs.Entries.{Entries, handle_at}
 use Rattle.vch_table.specs.declared.table.Cell.{Cell}
 use Rattle.vch_value.specs.Picture as picture
-use Rattle.vch_value.specs.Picture.{Picture, Claimed, Meets, flags_at, claims_at, entry_of}
+use Rattle.vch_value.specs.Picture.{Picture, Claimed, AgreesAt, flags_at, claims_at, entry_of}
 use Rattle.vch_model.specs.declared.lists.Scenario.{Scenario}
 use Rattle.vch_base.specs.Keyed.{of_key}
 use Rattle.vch_machine.specs.State.{Machine, tasked}
@@ -26,7 +26,7 @@ use Rattle.vch_create.specs.Makes.{IsRoomier}
 -- entries with more places fit what they fitted
 pub more_places : (p : Picture) (old new : Entries) (kept : Kept) → new.slots ≡ old.slots → old.spare ≤ new.spare → picture.Stands p old kept → picture.Stands p new kept
 more_places p old new kept e l s = record {
-  at = λ h. subst (λ slots. Meets (count h p.holders) (flags_at h p.receipts) (claims_at h p.claims) (live_at kept.slots h) (entry_of slots h)) (sym e) (s.at h);
+  at = λ h. subst (λ slots. AgreesAt (count h p.holders) (flags_at h p.receipts) (claims_at h p.claims) (live_at kept.slots h) (entry_of slots h)) (sym e) (s.at h);
   room = let r = s.room in omega (arith, r, l);
 }
 

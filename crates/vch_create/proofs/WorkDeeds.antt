@@ -11,7 +11,7 @@ use Rattle.vch_value.specs.Picture.{Picture, Claimed}
 use Rattle.vch_base.specs.Keyed.{of_key}
 use Rattle.vch_machine.specs.State.{Handles}
 use Rattle.vch_machine.specs.Naming.{same_handle}
-use Rattle.vch_machine.specs.Working.{Worked, changed, changed_each, copies, removes}
+use Rattle.vch_machine.specs.Working.{WorkDone, changed, changed_each, copies, removes}
 use Rattle.vch_state.specs.Plain.{Plain}
 use Rattle.vch_state.specs.Shape.{Indices, index_of, Optional, IsIndexOf, IsMap, slots_of}
 use Rattle.vch_state.proofs.CallerLemmas.{either_way, at_key}
@@ -66,7 +66,7 @@ module _ (c : Plain) where
         (same_both k (index_of k v) (index_of k map) (of_key k d.0) (of_key k x) (apart k) (at_key c k v d.0 d.1) (at_key c k map x m) ∙ ap (same_handle (of_key k d.0)) e))
 
     -- a change at one key leaves the others
-    changed_other : (j k : Key) → same_key j k ≡ false → (y : Option (Option ℕ)) (z : Worked) → of_key j (changed k y z).forming ≡ of_key j z.forming
+    changed_other : (j k : Key) → same_key j k ≡ false → (y : Option (Option ℕ)) (z : WorkDone) → of_key j (changed k y z).forming ≡ of_key j z.forming
     changed_other j k e None z = refl
     changed_other j k e (Some h) z = with_of j k h z.forming ∙ ap (λ b. cond b h (of_key j z.forming)) e
 
@@ -85,30 +85,30 @@ module _ (c : Plain) where
     module _ (only : OnlyUser c) (kept : Kept) (ahead after : List ℕ) (receipts : List Receipt) (claims : List Claimed)
         (w : Handles) (deed : Deed) (f : Key → Option (Option ℕ)) (is : DeedIs w deed f)
         (shared : (k : Key) (map : Indices) → IsShared c only kept ahead after receipts claims (becomes deed map k)) where
-      abbrev pub Both : Workspace → Worked → Type 0
+      abbrev pub Both : Workspace → WorkDone → Type 0
       Both a z = Related c a z × picture.Stands (P c only kept ahead after receipts claims z) a.entries kept
 
-      one_step : (k : Key) (a b : Workspace) (z : Worked) → of_key k z.forming ≡ of_key k w → Changes a k (becomes deed a.map k) b → Both a z → Both b (changed k (f k) z)
+      one_step : (k : Key) (a b : Workspace) (z : WorkDone) → of_key k z.forming ≡ of_key k w → Changes a k (becomes deed a.map k) b → Both a z → Both b (changed k (f k) z)
       one_step k a b z e g r =
           let m : Becomes c k (becomes deed a.map k) (f k) = becomes_is w deed f is k a.map z.forming r.0.map e in
           (related_step c k a b z (becomes deed a.map k) (f k) m g r.0, seen_step c only kept ahead after receipts claims k a b z (becomes deed a.map k) (f k) m (shared k a.map) g r.0 r.1)
 
       -- the map has what it had at each of these keys
-      abbrev Same : List Key → Worked → Type 0
+      abbrev Same : List Key → WorkDone → Type 0
       Same ks z = AllByRecursion (λ k. of_key k z.forming ≡ of_key k w) ks
 
-      same_then : (k : Key) (ks : List Key) (y : Option (Option ℕ)) (z : Worked) → AllByRecursion (λ j. same_key j k ≡ false) ks → Same ks z → Same ks (changed k y z)
+      same_then : (k : Key) (ks : List Key) (y : Option (Option ℕ)) (z : WorkDone) → AllByRecursion (λ j. same_key j k ≡ false) ks → Same ks z → Same ks (changed k y z)
       same_then k [] y z d s = tt
       same_then k (j ∷ ks) y z d s = (changed_other j k d.0 y z ∙ s.0, same_then k ks y z d.1 s.1)
 
-      each_done : (ks : List Key) (a b : Workspace) (z : Worked) → Apart ks → Same ks z → ChangesEach ks a deed b → Both a z → Both b (changed_each f ks z)
+      each_done : (ks : List Key) (a b : Workspace) (z : WorkDone) → Apart ks → Same ks z → ChangesEach ks a deed b → Both a z → Both b (changed_each f ks z)
       each_done [] a b z d s g r = subst (λ x. Both x z) (sym g) r
       each_done (k ∷ ks) a b z d s g r = each_done ks g.0 b (changed k (f k) z) d.1 (same_then k ks (f k) z d.0 s.1) g.2 (one_step k a g.0 z s.0 g.1 r)
 
-      all_same : (ks : List Key) (z : Worked) → z.forming ≡ w → Same ks z
+      all_same : (ks : List Key) (z : WorkDone) → z.forming ≡ w → Same ks z
       all_same [] z e = tt
       all_same (k ∷ ks) z e = (ap (of_key k) e, all_same ks z e)
 
-      pub both_done : (version : ℕ) (ks : AtKeys) (a b : Workspace) (z : Worked) → z.forming ≡ w → ChangesAt version a ks deed b → Both a z → Both b (done version ks f z)
+      pub both_done : (version : ℕ) (ks : AtKeys) (a b : Workspace) (z : WorkDone) → z.forming ≡ w → ChangesAt version a ks deed b → Both a z → Both b (done version ks f z)
       both_done version (at.One k) a b z e g r = one_step k a b z (ap (of_key k) e) g r
       both_done version at.All a b z e g r = each_done (managed version) a b z (managed_apart version) (all_same (managed version) z e) g r

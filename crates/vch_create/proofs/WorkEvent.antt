@@ -23,7 +23,7 @@ use Rattle.vch_machine.specs.State.{Handles, Machine, tasked}
 use Rattle.vch_machine.specs.Frames as frames
 use Rattle.vch_machine.specs.Naming.{handles_of, same_handle}
 use Rattle.vch_machine.specs.Next.{next_kind}
-use Rattle.vch_machine.specs.Working.{Worked, work_first, size_of}
+use Rattle.vch_machine.specs.Working.{WorkDone, work_first, size_of}
 use Rattle.vch_machine.specs.Events.{event, event_of}
 use Rattle.vch_legal.proofs.CallerLemmas.{event_keeps, work_few, behind}
 use Rattle.vch_state.specs.declared.frame.Frame.{Frame}
@@ -65,13 +65,13 @@ whole_first version names First.End x A e f = absurd (cc)
 whole_first version names (First.HeaderCut left) x A e f = absurd (cc)
 whole_first version names (First.ContentCut wanted left) x A e f = absurd (cc)
 
-worked_ok : (version : ℕ) (c : Plain) (w : Handles) (x : Option Change) (res : Result Worked ℤ) (A : Type 0) → Answers version c w (Ok x) res → ((z : Worked) → res ≡ Ok z → Answers version c w (Ok x) (Ok z) → A) → A
+worked_ok : (version : ℕ) (c : Plain) (w : Handles) (x : Option Change) (res : Result WorkDone ℤ) (A : Type 0) → Answers version c w (Ok x) res → ((z : WorkDone) → res ≡ Ok z → Answers version c w (Ok x) (Ok z) → A) → A
 worked_ok version c w None (Ok z) A a f = f z refl a
 worked_ok version c w (Some x) (Ok z) A a f = f z refl a
 worked_ok version c w None (Err n) A a f = absurd a
 worked_ok version c w (Some x) (Err n) A a f = absurd a
 
-worked_err : (version : ℕ) (c : Plain) (w : Handles) (x : Code) (res : Result Worked ℤ) → Answers version c w (Err x) res → res ≡ Err x.number
+worked_err : (version : ℕ) (c : Plain) (w : Handles) (x : Code) (res : Result WorkDone ℤ) → Answers version c w (Err x) res → res ≡ Err x.number
 worked_err version c w x (Ok z) a = absurd a
 worked_err version c w x (Err n) a = ap Err (sym a)
 
@@ -151,7 +151,7 @@ module _ (p : Parts) (t : ℕ) (task : is_task p.scenario t ≡ true) (next : Is
     abbrev before_it : Workspace
     before_it = record { entries = p.user_entries; map = v; lets = [] }
 
-    abbrev Both : Workspace → Worked → Type 0
+    abbrev Both : Workspace → WorkDone → Type 0
     Both a y = Related (plain_of p) a y × picture.Stands (P (plain_of p) (is_user p) p.user ahead after receipts claims y) a.entries p.user
 
     range : (0 < t) × (t - 1 < length (plain_of p).tasks)
@@ -170,13 +170,13 @@ module _ (p : Parts) (t : ℕ) (task : is_task p.scenario t ≡ true) (next : Is
     )
 
     -- what the code did to the map is what the machine does
-    both_after : IsApart p.user_entries.slots → (x : Option Change) (y : Worked) (b : Workspace) → NamedIn (voucher_of p t) (Ok x) → Answers p.scenario.version (plain_of p) w (Ok x) (Ok y) → ChangesBy p.scenario.version before_it x b → Both b y
+    both_after : IsApart p.user_entries.slots → (x : Option Change) (y : WorkDone) (b : Workspace) → NamedIn (voucher_of p t) (Ok x) → Answers p.scenario.version (plain_of p) w (Ok x) (Ok y) → ChangesBy p.scenario.version before_it x b → Both b y
     both_after apart None y b n a g = subst (λ q. Both b q) (sym a) (subst (λ q. Both q (unworked p.scenario.version (plain_of p) w)) (sym g) base)
     both_after apart (Some x) y b n a g =
         subst (Both b) (sym a.result)
         (both_done (plain_of p) (apart_all p apart) (is_user p) p.user ahead after receipts claims w x.deed a.by a.is (deed_shared x.deed n) p.scenario.version x.keys before_it b (unworked p.scenario.version (plain_of p) w) refl g base)
 
-    module _ (want : Bool) (r : Recipe) (rest : List ℕ) (first : first_of (drop g.at_byte bytes) ≡ One r rest) (y : Worked) (result : work_first p.scenario.version (tasked m t).names (One r rest) w ≡ Ok y)
+    module _ (want : Bool) (r : Recipe) (rest : List ℕ) (first : first_of (drop g.at_byte bytes) ≡ One r rest) (y : WorkDone) (result : work_first p.scenario.version (tasked m t).names (One r rest) w ≡ Ok y)
         (e2 : Entries) (v2 : Indices) (ls : List KeyIndex) (nxt : ℕ) (next_is : nxt ≡ g.at_byte + (16 + length r.content)) (both : Both (record { entries = e2; map = v2; lets = ls }) y) where
       few : length y.left ≤ 8
       few = work_few p.scenario.version (tasked m t).names (One r rest) w [] y result refl

@@ -13,7 +13,7 @@ use Rattle.vch_value.proofs.CallerLemmas.{stands_alike}
 use Rattle.vch_base.specs.Keyed.{of_key}
 use Rattle.vch_machine.specs.Naming as naming
 use Rattle.vch_machine.specs.Naming.{same_handle}
-use Rattle.vch_machine.specs.Working.{Worked, changed, changed_each}
+use Rattle.vch_machine.specs.Working.{WorkDone, changed, changed_each}
 use Rattle.vch_base.specs.Keys.{managed, same_key}
 use Rattle.vch_state.specs.Plain.{Plain}
 use Rattle.vch_state.specs.Shape.{index_of, Pairwise, Optional, IsIndexOf, IsMap, IsLet, slots_of}
@@ -27,12 +27,12 @@ use Rattle.vch_create.proofs.Items.{pairwise_append, item_lets}
 use Rattle.vch_create.proofs.WorkShares.{Stay, shares_stay}
 
 -- the machine's change at a key, or at all managed ones
-abbrev pub done : ℕ → AtKeys → (Key → Option (Option ℕ)) → Worked → Worked
+abbrev pub done : ℕ → AtKeys → (Key → Option (Option ℕ)) → WorkDone → WorkDone
 done version (at.One k) f w = changed k (f k) w
 done version at.All f w = changed_each f (managed version) w
 
 -- who holds what at the key of user data, where a frame forms this
-abbrev pub worked_holds : Worked → List ℕ
+abbrev pub worked_holds : WorkDone → List ℕ
 worked_holds w = listed (of_key keys.User w.forming) ++ flat_map (let_holds keys.User) w.left
 
 flat_append : {X A : Type 0} (f : X → List A) (xs ys : List X) → flat_map f (xs ++ ys) ≡ flat_map f xs ++ flat_map f ys
@@ -47,7 +47,7 @@ abbrev pub added : Key → Option ℕ → List ℕ
 added keys.User h = listed h
 added k h = []
 
-changed_holds : (k : Key) (h : Option ℕ) (w : Worked) (j : ℕ) → count j (worked_holds (changed k (Some h) w)) ≡ count j (added k h) + count j (worked_holds w)
+changed_holds : (k : Key) (h : Option ℕ) (w : WorkDone) (j : ℕ) → count j (worked_holds (changed k (Some h) w)) ≡ count j (added k h) + count j (worked_holds w)
 changed_holds k h w j = by k
   where
     pieces : (a left more : List ℕ) → count j (a ++ (left ++ more)) ≡ count j a + (count j left + count j more)
@@ -94,13 +94,13 @@ module _ (c : Plain) where
   Becomes k x y = ⊥
 
   -- the map, and what leaves it, are the machine's; the entries have the handles that they had
-  pub record Related (f : Workspace) (w : Worked) : Type 0 where
+  pub record Related (f : Workspace) (w : WorkDone) : Type 0 where
     pub map : IsMap c f.map w.forming
     pub lets : Pairwise (IsLet c) f.lets w.left
     pub handles : (i : ℕ) → handle_at f.entries.slots i ≡ handle_at (slots_of c keys.User) i
     pub made : (i : ℕ) → made_of (entry_at f.entries.slots i) ≡ made_of (entry_at (slots_of c keys.User) i)
 
-  pub related_step : (k : Key) (f g : Workspace) (w : Worked) (x y : Option (Option ℕ)) → Becomes k x y → Changes f k x g → Related f w → Related g (changed k y w)
+  pub related_step : (k : Key) (f g : Workspace) (w : WorkDone) (x y : Option (Option ℕ)) → Becomes k x y → Changes f k x g → Related f w → Related g (changed k y w)
   related_step k f g w None None b e r = subst (λ z. Related z w) (sym e) r
   related_step k f g w None (Some h) b e r = absurd b
   related_step k f g w (Some i) None b e r = absurd b
@@ -115,10 +115,10 @@ module _ (c : Plain) where
 
   module _ (only : OnlyUser c) (kept : Kept) (ahead after : List ℕ) (receipts : List Receipt) (claims : List Claimed) where
     -- the picture where the frame forms this
-    abbrev pub P : Worked → Picture
+    abbrev pub P : WorkDone → Picture
     P w = pictured (ahead ++ (worked_holds w ++ after)) receipts claims
 
-    around : (j : ℕ) (w : Worked) → count j (P w).holders ≡ count j ahead + (count j (worked_holds w) + count j after)
+    around : (j : ℕ) (w : WorkDone) → count j (P w).holders ≡ count j ahead + (count j (worked_holds w) + count j after)
     around j w = count_append j ahead (worked_holds w ++ after) ∙ ap (λ n. count j ahead + n) (count_append j (worked_holds w) after)
 
     -- an index that the key gets has another holder
@@ -127,7 +127,7 @@ module _ (c : Plain) where
     IsShared (Some None) = Unit {0}
     IsShared (Some (Some i)) = (h : ℕ) → handle_at (slots_of c keys.User) i ≡ Some h → 0 < count h after
 
-    alike_none : (k : Key) (w : Worked) → Alike (P w) (P (changed k (Some None) w))
+    alike_none : (k : Key) (w : WorkDone) → Alike (P w) (P (changed k (Some None) w))
     alike_none k w = record {
       holders = λ j.
           let a = around j w in let b = around j (changed k (Some None) w) in let d = changed_holds k None w j in let e : count j (added k None) ≡ 0 = no_more j k in
@@ -143,7 +143,7 @@ module _ (c : Plain) where
         no_more j keys.User = refl
         no_more j keys.Test = refl
 
-    alike_some : (h : ℕ) (w : Worked) → Alike (shared_at (Some h) (P w)) (P (changed keys.User (Some (Some h)) w))
+    alike_some : (h : ℕ) (w : WorkDone) → Alike (shared_at (Some h) (P w)) (P (changed keys.User (Some (Some h)) w))
     alike_some h w = record {
       holders = λ j.
           let a = around j w in let b = around j (changed keys.User (Some (Some h)) w) in let d = changed_holds keys.User (Some h) w j in
@@ -154,7 +154,7 @@ module _ (c : Plain) where
       flying = refl;
     }
 
-    pub seen_step : (k : Key) (f g : Workspace) (w : Worked) (x y : Option (Option ℕ)) → Becomes k x y → IsShared x → Changes f k x g → Related f w
+    pub seen_step : (k : Key) (f g : Workspace) (w : WorkDone) (x y : Option (Option ℕ)) → Becomes k x y → IsShared x → Changes f k x g → Related f w
         → picture.Stands (P w) f.entries kept → picture.Stands (P (changed k y w)) g.entries kept
     seen_step k f g w None None b q e r s = subst (λ z. picture.Stands (P w) z.entries kept) (sym e) s
     seen_step k f g w None (Some h) b q e r s = absurd b

@@ -11,7 +11,7 @@ use Rattle.vch_recipe.specs.declared.recipe.Recipe.{Recipe}
 use Rattle.vch_recipe.specs.Recipes.{First, One}
 use Rattle.vch_machine.specs.State.{Handles, Named}
 use Rattle.vch_machine.specs.Naming.{handles_of}
-use Rattle.vch_machine.specs.Working.{Worked, changed_at, changed_keys, copies, removes, copied, worked, worked_with, work_first}
+use Rattle.vch_machine.specs.Working.{WorkDone, changed_at, changed_keys, copies, removes, copied, worked, worked_with, work_first}
 use Rattle.vch_state.specs.Plain.{Plain}
 use Rattle.vch_state.specs.Shape.{Indices, Optional, IsMap}
 use Rattle.vch_create.specs.declared.change.Deed.{Deed}
@@ -24,22 +24,22 @@ use Rattle.vch_create.proofs.WorkDeeds.{DeedIs}
 
 module _ (version : ℕ) (c : Plain) (w : Handles) where
   -- before the record
-  abbrev pub unworked : Worked
+  abbrev pub unworked : WorkDone
   unworked = record { forming = w; left = [] }
 
   -- the machine's change is that of the deed
-  pub record IsDone (x : Change) (z : Worked) : Type 0 where
+  pub record IsDone (x : Change) (z : WorkDone) : Type 0 where
     pub by : Key → Option (Option ℕ)
     pub is : DeedIs c w x.deed by
     pub result : z ≡ done version x.keys by unworked
 
-  abbrev pub Answers : Result (Option Change) Code → Result Worked ℤ → Type 0
+  abbrev pub Answers : Result (Option Change) Code → Result WorkDone ℤ → Type 0
   Answers (Err x) (Err n) = x.number ≡ n
   Answers (Ok None) (Ok z) = z ≡ unworked
   Answers (Ok (Some x)) (Ok z) = IsDone x z
   Answers x z = ⊥
 
-  answers_if : (b : Bool) (x y : Result (Option Change) Code) (p q : Result Worked ℤ) → Answers x p → Answers y q → Answers (cond b x y) (cond b p q)
+  answers_if : (b : Bool) (x y : Result (Option Change) Code) (p q : Result WorkDone ℤ) → Answers x p → Answers y q → Answers (cond b x y) (cond b p q)
   answers_if true x y p q g h = g
   answers_if false x y p q g h = h
 

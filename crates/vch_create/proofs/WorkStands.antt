@@ -14,7 +14,7 @@ use Rattle.vch_machine.specs.State as machine
 use Rattle.vch_base.specs.Keyed.{of_key}
 use Rattle.vch_machine.specs.State.{Handles, Place, Machine, Tasked, tasked, is_empty}
 use Rattle.vch_machine.specs.Frames as frames
-use Rattle.vch_machine.specs.Working.{Worked}
+use Rattle.vch_machine.specs.Working.{WorkDone}
 use Rattle.vch_machine.specs.Next.{current}
 use Rattle.vch_legal.specs.Facts.{Fits}
 use Rattle.vch_legal.proofs.CallerLemmas.{rest_of, record_rest}
@@ -58,13 +58,13 @@ module _ (sc : Scenario) (c : Plain) (m : Machine) (t : ℕ) (positive : 0 < t) 
   abbrev pub kept_now : Kept
   kept_now = (of_key keys.User c.keyed).kept
 
-  abbrev pub P_of : OnlyUser c → Worked → Picture
+  abbrev pub P_of : OnlyUser c → WorkDone → Picture
   P_of only z = P c only kept_now (held_before keys.User c m t) (held_behind keys.User c m t) (receipts_before keys.User c m t ++ receipts_behind keys.User c m t) (claims_before keys.User c m t ++ claims_behind keys.User c m t) z
 
   pub picture_is : (only : OnlyUser c) → picture_of keys.User c m ≡ P_of only (record { forming = w; left = [] })
   picture_is only = picture_now keys.User c m t positive s.shape.long inside ∙ rw (own, twin) refl
 
-  module _ (only : OnlyUser c) (e2 : Entries) (v2 : Indices) (ls : List KeyIndex) (next : ℕ) (z : Worked)
+  module _ (only : OnlyUser c) (e2 : Entries) (v2 : Indices) (ls : List KeyIndex) (next : ℕ) (z : WorkDone)
       (few : length z.left ≤ 8) (next_is : next ≡ place + size)
       (related : Related c (record { entries = e2; map = v2; lets = ls }) z)
       (counts : picture.Stands (P_of only z) e2 kept_now) where

@@ -102,7 +102,7 @@ IsOwnRefusal (Err (fault.Refused code)) = code.number ≡ KERN_INVALID_ARGUMENT
 IsOwnRefusal result = Unit {0}
 
 -- the manager was asked what the record asks, and this is what it answered
-pub record Answers (t : ℕ) (result : Result Made GetFault) (old new : Parts) : Type 0 where
+pub record MakeAnswers (t : ℕ) (result : Result Made GetFault) (old new : Parts) : Type 0 where
   pub others : new ≡ record old { user_entries = new.user_entries; user = new.user }
   pub slots : new.user_entries.slots ≡ old.user_entries.slots
   pub places : old.user_entries.spare ≤ new.user_entries.spare

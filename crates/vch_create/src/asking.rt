@@ -4,7 +4,7 @@ ghost use Rattle.vch_model.specs.Lines.{is_task};
 ghost use Rattle.vch_model.specs.UserOnly.{IsUserOnly};
 ghost use Rattle.vch_state.specs.Plain.{frame_of};
 ghost use Rattle.vch_state.specs.Reached.{Reached, IsNext, value_kind};
-ghost use Rattle.vch_create.specs.Makes.{Answers, HasRoom, IsMadeEntry, IsRoomier};
+ghost use Rattle.vch_create.specs.Makes.{MakeAnswers, HasRoom, IsMadeEntry, IsRoomier};
 
 use crate::flying::flying;
 use crate::question::{content_at, read_question};
@@ -81,7 +81,7 @@ pub fn ask(parts: &mut Parts, task: u32) -> Result<Made, GetFault>
     requires built { IsUserOnly parts.old.scenario }
     requires next { IsNext parts.old task (Some kinds.Make) }
     requires idle { value_kind (frame_of parts.old.frames task) ≡ None }
-    ensures { Answers task result parts.old parts.new }
+    ensures { MakeAnswers task result parts.old parts.new }
 {
     parts.user.know_rules();
     let tasks = parts.scenario.scenario().flags.len();

@@ -6,7 +6,7 @@ use Rattle.std.proofs.lemmas.List.{length-take-le, get_or-take, length-take}
 use Rattle.vch_recipe.proofs.CallerLemmas.{AreBytes}
 use Rattle.vch_header.specs.Dispositions.{IsKnown, disposition_of, voucher_bits}
 use Rattle.vch_header.specs.Fields.{Fields}
-use Rattle.vch_header.specs.Headers.{IsHeader, Begins, HasUnknown, made_by, made, fields_in, decoded}
+use Rattle.vch_header.specs.Headers.{IsHeader, StartsWithHeader, HasUnknown, made_by, made, fields_in, decoded}
 use Rattle.vch_header.specs.declared.disposition.Disposition.{Disposition}
 use Rattle.vch_header.specs.declared.fault.HeaderFault.{HeaderFault}
 use Rattle.vch_header.specs.declared.fault.HeaderFault.TheVariants as faults
@@ -57,7 +57,7 @@ first_small n bytes small i =
       | inr ge ↦ let e : get_or (take n bytes) i 0 ≡ 0 = grind (arith, common_steps) in omega arith
     ]
 
-pub begins_in : (bytes : List ℕ) → 24 ≤ length bytes → AreBytes bytes → Begins bytes (fields_in (take 24 bytes))
+pub begins_in : (bytes : List ℕ) → 24 ≤ length bytes → AreBytes bytes → StartsWithHeader bytes (fields_in (take 24 bytes))
 begins_in bytes long small =
     let l : length (take 24 bytes) ≡ 24 = length-take-le 24 bytes long in
     record {
@@ -65,10 +65,10 @@ begins_in bytes long small =
       spelled = spelled_by (take 24 bytes) l (first_small 24 bytes small);
     }
 
-pub fields_are : (bytes : List ℕ) (h : Fields) → Begins bytes h → fields_in (take 24 bytes) ≡ h
+pub fields_are : (bytes : List ℕ) (h : Fields) → StartsWithHeader bytes h → fields_in (take 24 bytes) ≡ h
 fields_are bytes h b = ap fields_in b.spelled ∙ fields_again h b.fits
 
-pub begins_long : (bytes : List ℕ) (h : Fields) → Begins bytes h → 24 ≤ length bytes
+pub begins_long : (bytes : List ℕ) (h : Fields) → StartsWithHeader bytes h → 24 ≤ length bytes
 begins_long bytes h b = omega (arith, length-take 24 bytes, ap length b.spelled, spelling_long h)
 
 decoded_short : (bytes : List ℕ) → length bytes < 24 → decoded bytes ≡ Err (faults.Short (length bytes))
@@ -81,18 +81,18 @@ decoded_long bytes ge = let t : nat_lt (length bytes) 24 ≡ false = grind (arit
 
 -- ---- the answers
 
-pub found : (bytes : List ℕ) (r : Result Fields HeaderFault) → AreBytes bytes → r ≡ decoded bytes → IfOk r (λ h. IsHeader h × Begins bytes h)
+pub found : (bytes : List ℕ) (r : Result Fields HeaderFault) → AreBytes bytes → r ≡ decoded bytes → IfOk r (λ h. IsHeader h × StartsWithHeader bytes h)
 found bytes (Ok h) small e =
     elim (cases_lt (length bytes) 24) [
       | inl lt ↦ absurd (let s = decoded_short bytes lt in cc)
       | inr ge ↦
           let m = made_ok (fields_in (take 24 bytes)) h (sym (e ∙ decoded_long bytes ge)) in
-          let b : Begins bytes h = subst (λ f. Begins bytes f) m.0 (begins_in bytes ge small) in
+          let b : StartsWithHeader bytes h = subst (λ f. StartsWithHeader bytes f) m.0 (begins_in bytes ge small) in
           (record { fits = b.fits; known = m.1 }, b)
     ]
 found bytes (Err fault) small e = tt
 
-pub only : (bytes : List ℕ) (h : Fields) → IsHeader h → Begins bytes h → decoded bytes ≡ Ok h
+pub only : (bytes : List ℕ) (h : Fields) → IsHeader h → StartsWithHeader bytes h → decoded bytes ≡ Ok h
 only bytes h is b =
     let long : 24 ≤ length bytes = begins_long bytes h b in
     decoded_long bytes long ∙ ap made (fields_are bytes h b) ∙ known_made h is.known (disposition_of (voucher_bits h.bits)) refl

@@ -8,7 +8,7 @@ use Rattle.hex.specs.declared.error.FromHexError.{FromHexError}
 use Rattle.hex.proofs.HexLemmas.{decode_of-ok, decode_of-same, decode_sized-ok, decode_sized-twice, IsOk-decode_sized}
 use Rattle.vch_header.specs.Dispositions.{IsKnown, voucher_bits, disposition_of}
 use Rattle.vch_header.specs.Fields.{Fields, Fits, spelling}
-use Rattle.vch_header.specs.Headers.{IsHeader, Begins, HasUnknown, fields_in}
+use Rattle.vch_header.specs.Headers.{IsHeader, StartsWithHeader, HasUnknown, fields_in}
 use Rattle.vch_header.specs.Messages.{AreDigits, SpellsHeader, SpellsUnknown, HasFault}
 use Rattle.vch_header.specs.declared.fault.HeaderFault.{HeaderFault}
 use Rattle.vch_header.specs.declared.fault.HeaderFault.TheVariants as header_faults
@@ -24,12 +24,12 @@ bytes_long digits bytes e =
     let d = decode_of-ok digits bytes (sym (decode_sized-twice digits 24 twice) ∙ e) in
     omega (arith, d.2)
 
-spelled_digits : (digits bytes : List ℕ) (h : Fields) → decode_sized digits 24 ≡ Ok bytes → Begins bytes h → decode_of digits ≡ Ok (spelling h)
+spelled_digits : (digits bytes : List ℕ) (h : Fields) → decode_sized digits 24 ≡ Ok bytes → StartsWithHeader bytes h → decode_of digits ≡ Ok (spelling h)
 spelled_digits digits bytes h e b =
     let long = bytes_long digits bytes e in
     sym (decode_sized-twice digits 24 (decode_sized-ok digits 24 bytes e)) ∙ e ∙ ap (λ l. Ok l) (sym (take_all 24 bytes (omega arith)) ∙ b.spelled)
 
-pub header_spelled : (digits bytes : List ℕ) (h : Fields) → decode_sized digits 24 ≡ Ok bytes → IsHeader h × Begins bytes h → SpellsHeader digits h
+pub header_spelled : (digits bytes : List ℕ) (h : Fields) → decode_sized digits 24 ≡ Ok bytes → IsHeader h × StartsWithHeader bytes h → SpellsHeader digits h
 header_spelled digits bytes h e b = record { header = b.0; bytes = spelled_digits digits bytes h e b.1 }
 
 not_ok : (r : Result (List ℕ) FromHexError) (fault : FromHexError) → r ≡ Err fault → IsOk r → ⊥

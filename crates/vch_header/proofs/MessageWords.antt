@@ -1,7 +1,7 @@
 -- The words of a message line, both ways.
 use Rattle.std.proofs.Common.{◌≡◌, ◌≢◌, ◌<◌, ℕ, Bool, true, false, not, ◌&&◌, List, [], ◌∷◌, ◌++◌, length, get_or, Option, Some, None, refl, sym, ap, ◌∙◌, arith, codes, append_assoc, append-nil, subst, IfSome, IfNone}
 use Rattle.std.proofs.lemmas.Grind.{common_steps}
-use Rattle.vch_model.specs.Grammar.{IsWord, Begins}
+use Rattle.vch_model.specs.Grammar.{IsWord, StartsWithLine}
 use Rattle.vch_model.specs.TextLines.{is_passed}
 use Rattle.vch_text.specs.Reading.{◌>>=◌, Finds}
 use Rattle.vch_text.specs.Words.{front_of, word_at, end_of, is_word}
@@ -37,8 +37,8 @@ unfolding message_of
 message_told line =
     let task = (front_of 32 line).0 in
     let more = (front_of 32 line).1 in
-    told_bind (λ v. Begins more v.0 v.1) (λ m. IsMessage line m.0 m.1) (word_at more) _ (word_told more) (λ v b.
-    told_bind (λ d. Begins v.1 d.0 d.1) (λ m. IsMessage line m.0 m.1) (word_at v.1) _ (word_told v.1) (λ d e.
+    told_bind (λ v. StartsWithLine more v.0 v.1) (λ m. IsMessage line m.0 m.1) (word_at more) _ (word_told more) (λ v b.
+    told_bind (λ d. StartsWithLine v.1 d.0 d.1) (λ m. IsMessage line m.0 m.1) (word_at v.1) _ (word_told v.1) (λ d e.
     told_bind (λ u. d.1 ≡ []) (λ m. IsMessage line m.0 m.1) (end_of d.1) _ (end_told d.1) (λ u n.
     told_test (λ m. IsMessage line m.0 m.1) (is_message task v.0 d.0) (Some (task, d.0)) None (λ t.
     let p = both (not (is_passed task) && is_word v.0 (codes "message")) (not (is_word d.0 (codes ""))) t in

@@ -13,14 +13,14 @@ pub record IsHeader (h : Fields) : Type 0 where
   pub known : IsKnown (voucher_bits h.bits)
 
 -- the first 24 bytes spell these numbers
-pub record Begins (bytes : List ℕ) (h : Fields) : Type 0 where
+pub record StartsWithHeader (bytes : List ℕ) (h : Fields) : Type 0 where
   pub fits : Fits h
   pub spelled : take 24 bytes ≡ spelling h
 
 -- the first 24 bytes spell numbers with a disposition that is not known
 pub record HasUnknown (bytes : List ℕ) (number : ℕ) : Type 0 where
   pub fields : Fields
-  pub begins : Begins bytes fields
+  pub begins : StartsWithHeader bytes fields
   pub number_is : number ≡ voucher_bits fields.bits
   pub unknown : IsKnown number → ⊥
 

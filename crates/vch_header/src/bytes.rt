@@ -1,6 +1,6 @@
 ghost use Rattle.std.specs.Prelude.{◌≡◌, ◌<◌, ◌↔◌, ℕ, length, IfOk, Ok};
 ghost use Rattle.vch_header.specs.Fields.{Fields, spelling};
-ghost use Rattle.vch_header.specs.Headers.{IsHeader, Begins, HasUnknown, decoded, fields_in, fields_of};
+ghost use Rattle.vch_header.specs.Headers.{IsHeader, StartsWithHeader, HasUnknown, decoded, fields_in, fields_of};
 
 use crate::fault::HeaderFault;
 use crate::header::Header;
@@ -40,8 +40,8 @@ fn decode_first(bytes: &[u8]) -> Result<Header, HeaderFault>
 /// bytes spell a disposition of the voucher port that is none of 0, 17 and 19, and has that number. It takes no memory.
 pub fn decode(bytes: &[u8]) -> Result<Header, HeaderFault>
     // The header that is answered is spelled by the bytes, and one that they spell is answered.
-    ensures found { IfOk result (λ h. IsHeader h × Begins bytes.now h) }
-    ensures only { (h : Fields) → IsHeader h → Begins bytes.now h → result ≡ Ok h }
+    ensures found { IfOk result (λ h. IsHeader h × StartsWithHeader bytes.now h) }
+    ensures only { (h : Fields) → IsHeader h → StartsWithHeader bytes.now h → result ≡ Ok h }
 
     ensures short { (have : ℕ) → (result ≡ Err (HeaderFault.Short have)) ↔
         ((length bytes.now < 24) × (have ≡ length bytes.now)) }

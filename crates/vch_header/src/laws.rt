@@ -1,7 +1,7 @@
 ghost use Rattle.std.specs.Prelude.{◌≡◌, ◌⊎◌, ◌++◌, [], ℕ, List, take};
 ghost use Rattle.vch_header.specs.Dispositions.{voucher_bits, IsKnown};
 ghost use Rattle.vch_header.specs.Fields.{Fields, Fits, spelling};
-ghost use Rattle.vch_header.specs.Headers.{Begins};
+ghost use Rattle.vch_header.specs.Headers.{StartsWithHeader};
 ghost use Rattle.vch_header.specs.Carrying.{carried_by, header_of};
 ghost use Rattle.vch_header.specs.Messages.{IsTranslation, IsRefusedAt};
 ghost use Rattle.vch_header.specs.declared.carried.Carried.{Carried};
@@ -10,9 +10,9 @@ ghost use Rattle.vch_header.specs.declared.fault.MessageFault.{MessageFault};
 /// Bytes begin with at most one header. So `decode` reads what `encode` wrote, whatever follows, and `encode` of what
 /// `decode` reads is the first 24 bytes.
 pub fn one_header()
-    ensures again { (h : Fields) (rest : List ℕ) → Fits h → Begins (spelling h ++ rest) h }
-    ensures first { (bytes : List ℕ) (h : Fields) → Begins bytes h → spelling h ≡ take 24 bytes }
-    ensures one { (bytes : List ℕ) (g h : Fields) → Begins bytes g → Begins bytes h → g ≡ h }
+    ensures again { (h : Fields) (rest : List ℕ) → Fits h → StartsWithHeader (spelling h ++ rest) h }
+    ensures first { (bytes : List ℕ) (h : Fields) → StartsWithHeader bytes h → spelling h ≡ take 24 bytes }
+    ensures one { (bytes : List ℕ) (g h : Fields) → StartsWithHeader bytes g → StartsWithHeader bytes h → g ≡ h }
 {}
 
 /// The spelling of a header begins no other header's spelling.

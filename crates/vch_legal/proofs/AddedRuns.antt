@@ -25,7 +25,7 @@ use Rattle.vch_machine.specs.Working.{do_work}
 use Rattle.vch_machine.specs.Schedules.{Move, happens, run, run_from_start, has_ended}
 use Rattle.vch_machine.proofs.CallerLemmas.{leaves_of}
 use Rattle.vch_legal.specs.Added.{with_added}
-use Rattle.vch_legal.specs.Tie.{Stands}
+use Rattle.vch_legal.specs.Tie.{Ties}
 use Rattle.vch_legal.proofs.AddedLines.{call_kept, phases_added, until_more, until_same}
 use Rattle.vch_legal.proofs.AddedPasts.{Lined, legal_lined, same_reply, same_store, past_added}
 use Rattle.vch_legal.proofs.Runs.{start_stands, happens_stands}
@@ -248,18 +248,18 @@ module _ (sc : Scenario) (line : Line) (some : 1 ≤ length sc.phases) where
       by_move (Some o) g i later =
           let a = move_phases move m o g in let b = later o i in omega (arith, a, b)
 
-  move_same : (move : Move) (m n : Machine) → Stands sc m → phases_in n.past < length sc.phases → happens sc m move ≡ Some n
+  move_same : (move : Move) (m n : Machine) → Ties sc m → phases_in n.past < length sc.phases → happens sc m move ≡ Some n
       → happens (with_added sc line) m move ≡ Some n
   move_same (Move.Of t want) m n s open_ e = event_same want m n t (legal_lined sc m.past s.legal) e
   move_same Move.EndPhase m n s open_ e = phase_same m n open_ e
 
-  run_same : (moves : List Move) (m n : Machine) → Stands sc m → phases_in n.past < length sc.phases → run sc moves (Some m) ≡ Some n
+  run_same : (moves : List Move) (m n : Machine) → Ties sc m → phases_in n.past < length sc.phases → run sc moves (Some m) ≡ Some n
       → run (with_added sc line) moves (Some m) ≡ Some n
   run_same [] m n s open_ e = e
   run_same (move ∷ moves) m n s open_ e = by_move (happens sc m move) refl e (λ o t i. run_same moves o n t open_ i)
     where
       by_move : (o : Option Machine) → happens sc m move ≡ o → run sc moves o ≡ Some n
-          → ((o : Machine) → Stands sc o → run sc moves (Some o) ≡ Some n → run (with_added sc line) moves (Some o) ≡ Some n)
+          → ((o : Machine) → Ties sc o → run sc moves (Some o) ≡ Some n → run (with_added sc line) moves (Some o) ≡ Some n)
           → run (with_added sc line) moves (happens (with_added sc line) m move) ≡ Some n
       by_move None g i later = absurd (cc)
       by_move (Some o) g i later =

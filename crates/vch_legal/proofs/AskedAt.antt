@@ -6,7 +6,7 @@ use Rattle.vch_base.specs.declared.key.TheConstants.{ALL_KEYS}
 use Rattle.vch_base.specs.declared.value.Value.{Value}
 use Rattle.vch_base.specs.Keys.{key_of}
 use Rattle.vch_base.specs.Keyed.{of_key}
-use Rattle.vch_base.specs.Managers.{sent, mapped}
+use Rattle.vch_base.specs.Managers.{preprocessed, mapped}
 use Rattle.vch_recipe.specs.Recipes.{First, One, first_of}
 use Rattle.vch_recipe.specs.declared.recipe.Recipe.{Recipe}
 use Rattle.vch_model.specs.declared.call.Call.{Call}
@@ -71,7 +71,7 @@ pub asks_at : (sc : Scenario) (t : ℕ) (m : Machine) (f : Frame) (v : Handles) 
     → AsksAt sc (member_of m.live (tasked m t)) t call f.at_byte f.keys (valued m.live v) k x
 asks_at sc t m f v (calls.Create bytes) k x e =
     first_asks sc.version m.live (tasked m t).names t f.keys v (first_of (drop f.at_byte bytes)) k x e
-asks_at sc t m f v (calls.Send to moving name id) k x e = transfer_asks m.live (sent t) f.keys v k x e
+asks_at sc t m f v (calls.Send to moving name id) k x e = transfer_asks m.live (preprocessed t) f.keys v k x e
 asks_at sc t m f v calls.Recv k x e = transfer_asks m.live (received_value sc t) f.keys v k x e
 asks_at sc t m f v (calls.GiveUp name) k x e = absurd (cc)
 asks_at sc t m f v (calls.Extract name key) k x e = absurd (cc)

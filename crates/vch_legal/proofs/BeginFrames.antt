@@ -12,7 +12,7 @@ use Rattle.vch_model.specs.declared.lists.Scenario.{Scenario}
 use Rattle.vch_model.specs.Voucher.{Voucher, nothing}
 use Rattle.vch_model.specs.Store.{member, voucher_of, is_full}
 use Rattle.vch_model.specs.Transfer.{received_value, before, after}
-use Rattle.vch_base.specs.Managers.{sent}
+use Rattle.vch_base.specs.Managers.{preprocessed}
 use Rattle.vch_model.specs.After.{is_want, queued, taken_first, received, placed, store_after_call}
 use Rattle.vch_model.specs.After as stores
 use Rattle.vch_model.specs.Lines.{is_task, phases_in, calls_in, lines_until}
@@ -102,7 +102,7 @@ key_among_if all k (Some i) h = (h, tt)
 
 -- what asking the keys of a voucher makes of it
 sends_before : (live : List Living) (t : ℕ) (v : Handles) (x : Option ℕ) → v.bank ≡ x
-    → transfer_keys (sent t) (key_if keys.Bank x) (valued live v) ≡ before t (valued live v)
+    → transfer_keys (preprocessed t) (key_if keys.Bank x) (valued live v) ≡ before t (valued live v)
 sends_before live t v None e = ap (λ o. record (valued live v) { bank = value_at live keys.Bank o }) e
     ∙ sym (ap (λ o. before t (record (valued live v) { bank = value_at live keys.Bank o })) e)
 sends_before live t v (Some h) e = refl

@@ -21,7 +21,7 @@ use Rattle.vch_legal.proofs.OwnTask.{set_keeps, Near, near_self, near_own, near_
 use Rattle.vch_legal.proofs.OwnFrame.{own_frame, plain_fits, closed_fits}
 
 -- the own frame, and a send that begins
-pub record Begins (sc : Scenario) (t : ℕ) (call : Call) (n o : Machine) : Type 0 where
+pub record BeginsOwn (sc : Scenario) (t : ℕ) (call : Call) (n o : Machine) : Type 0 where
   pub near : Near t n o
   pub own : OptionFits (tasked o t).frame
   pub sent : (f : Frame) (to : ℕ) (moving : Bool) (name id : ℕ) → (tasked o t).frame ≡ Some f
@@ -30,7 +30,7 @@ pub record Begins (sc : Scenario) (t : ℕ) (call : Call) (n o : Machine) : Type
 
 -- an answer at once
 begins_none : (sc : Scenario) (t : ℕ) (call : Call) (n o : Machine) → (tasked o t).frame ≡ None → Near t n o
-    → Begins sc t call n o
+    → BeginsOwn sc t call n o
 begins_none sc t call n o e near =
     record {
       near = near;
@@ -40,8 +40,8 @@ begins_none sc t call n o e near =
       exits = λ _. subst Formless (sym e) tt;
     }
 
-begins_either : (sc : Scenario) (t : ℕ) (call : Call) (n a b : Machine) (c : Bool) → (c ≡ true → Begins sc t call n a)
-    → (c ≡ false → Begins sc t call n b) → Begins sc t call n (if c then a else b)
+begins_either : (sc : Scenario) (t : ℕ) (call : Call) (n a b : Machine) (c : Bool) → (c ≡ true → BeginsOwn sc t call n a)
+    → (c ≡ false → BeginsOwn sc t call n b) → BeginsOwn sc t call n (if c then a else b)
 begins_either sc t call n a b true x y = x refl
 begins_either sc t call n a b false x y = y refl
 
@@ -49,7 +49,7 @@ begins_either sc t call n a b false x y = y refl
 begins_frame : (sc : Scenario) (t : ℕ) (call : Call) (n o : Machine) (g : Option Frame) → OptionFits g → Near t n o
     → ((to : ℕ) (moving : Bool) (name id : ℕ) → call ≡ calls.Send to moving name id → is_task sc to ≡ true)
     → (call ≡ calls.Exit → Formless g)
-    → Begins sc t call n (with_frame o t g)
+    → BeginsOwn sc t call n (with_frame o t g)
 begins_frame sc t call n o g fits near sent exits =
     record {
       near = near_framed t n o g near;
@@ -71,8 +71,8 @@ exiting_fits = plain_fits exiting_frame refl (λ h. refl) none_yet
     none_yet : 0 ≤ most_lets
     none_yet = omega arith
 
-replied_begins : (sc : Scenario) (t : ℕ) (call : Call) (n o : Machine) (c : Call) (r : Reply) → Begins sc t call n o
-    → Begins sc t call n (replied o t c r)
+replied_begins : (sc : Scenario) (t : ℕ) (call : Call) (n o : Machine) (c : Call) (r : Reply) → BeginsOwn sc t call n o
+    → BeginsOwn sc t call n (replied o t c r)
 replied_begins sc t call n o c r b =
     record { near = near_replied t n o c r b.near; own = b.own; sent = b.sent; exits = b.exits }
 
@@ -84,7 +84,7 @@ queued_frame n t to q e =
     (λ k. ap (λ i. (at_task n.tasks i idle).frame) k ∙ e) e
 
 dequeued_begins : (sc : Scenario) (t : ℕ) (call : Call) (n : Machine) (queue : List Message)
-    → (tasked n t).frame ≡ None → Begins sc t call n (dequeued n t queue)
+    → (tasked n t).frame ≡ None → BeginsOwn sc t call n (dequeued n t queue)
 dequeued_begins sc t call n [] e = begins_none sc t call n n e (near_self t n)
 dequeued_begins sc t call n (q ∷ queue) e =
     begins_none sc t call n (dequeued n t (q ∷ queue)) (set_keeps (λ y. y.frame ≡ None) n.tasks t t
@@ -92,7 +92,7 @@ dequeued_begins sc t call n (q ∷ queue) e =
     (near_own t n (record (tasked n t) { queue = queue }) refl)
 
 recv_begins : (sc : Scenario) (t : ℕ) (n : Machine) (r : Reply) (v : Option Handles) → (tasked n t).frame ≡ None
-    → Begins sc t calls.Recv n (begin_recv n t calls.Recv r v)
+    → BeginsOwn sc t calls.Recv n (begin_recv n t calls.Recv r v)
 recv_begins sc t n r None e = replied_begins sc t calls.Recv n _ calls.Recv r
     (dequeued_begins sc t calls.Recv n (tasked n t).queue e)
 recv_begins sc t n r (Some v) e = begins_frame sc t calls.Recv n n _ (fresh_fits v _) (near_self t n)
@@ -100,7 +100,7 @@ recv_begins sc t n r (Some v) e = begins_frame sc t calls.Recv n n _ (fresh_fits
 
 found_begins : (sc : Scenario) (t to : ℕ) (moving : Bool) (name id : ℕ) (n : Machine) (r : Reply) (v : Option Handles)
     → (tasked n t).frame ≡ None → is_task sc to ≡ true
-    → Begins sc t (calls.Send to moving name id) n (elim v [
+    → BeginsOwn sc t (calls.Send to moving name id) n (elim v [
       | None ↦ replied n t (calls.Send to moving name id) r
       | Some w ↦ with_frame n t (Some (fresh_frame w (key_if keys.Bank w.bank)))
     ])
@@ -116,7 +116,7 @@ found_begins sc t to moving name id n r (Some w) e task = begins_frame sc t _ n 
 
 send_begins : (sc : Scenario) (t to : ℕ) (moving : Bool) (name id : ℕ) (n : Machine) (r : Reply) (v : Option Handles)
     → (tasked n t).frame ≡ None
-    → Begins sc t (calls.Send to moving name id) n (begin_send sc n t (calls.Send to moving name id) to name id r v)
+    → BeginsOwn sc t (calls.Send to moving name id) n (begin_send sc n t (calls.Send to moving name id) to name id r v)
 send_begins sc t to moving name id n r v e =
     begins_either sc t _ n _ _ (not (is_task sc to)) (λ _. replied_begins sc t _ n n (calls.Send to moving name id) r
     (begins_none sc t _ n n e (near_self t n)))
@@ -131,7 +131,7 @@ send_begins sc t to moving name id n r v e =
     not_false b g = grind arith
 
 dropped_begins : (sc : Scenario) (t name : ℕ) (n : Machine) (r : Reply) (v : Option Handles)
-    → Begins sc t (calls.GiveUp name) n (dropped n t (calls.GiveUp name) r v name)
+    → BeginsOwn sc t (calls.GiveUp name) n (dropped n t (calls.GiveUp name) r v name)
 dropped_begins sc t name n r v =
     replied_begins sc t (calls.GiveUp name) n (with_frame mid t (closed (leaving_frame (orphaned mid v))))
     (calls.GiveUp name) r
@@ -150,11 +150,11 @@ dropped_begins sc t name n r v =
     few lets h = omega arith
 
 answered_begins : (sc : Scenario) (t : ℕ) (call : Call) (n : Machine) (r : Reply) → (tasked n t).frame ≡ None
-    → Begins sc t call n (replied n t call r)
+    → BeginsOwn sc t call n (replied n t call r)
 answered_begins sc t call n r e = replied_begins sc t call n n call r (begins_none sc t call n n e (near_self t n))
 
 pub call_begins : (sc : Scenario) (want : Bool) (t : ℕ) (call : Call) (n : Machine) (r : Reply)
-    → (tasked n t).frame ≡ None → Begins sc t call n (begin_call sc want n t call r)
+    → (tasked n t).frame ≡ None → BeginsOwn sc t call n (begin_call sc want n t call r)
 call_begins sc want t (calls.Create bytes) n r e =
     begins_either sc t (calls.Create bytes) n _ _ ((length bytes == 0) || nat_lt ARRAY_BYTES (length bytes))
     (λ _. answered_begins sc t (calls.Create bytes) n r e)

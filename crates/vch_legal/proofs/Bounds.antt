@@ -16,8 +16,8 @@ use Rattle.vch_machine.specs.Schedules.{Move, happens, run, run_from_start}
 use Rattle.vch_machine.specs.Working.{do_work}
 use Rattle.vch_machine.proofs.CallerLemmas.{leaves_of}
 use Rattle.vch_legal.specs.Facts.{Fits, OptionFits}
-use Rattle.vch_legal.specs.Tie.{first_in, Stands}
-use Rattle.vch_legal.specs.Left.{left}
+use Rattle.vch_legal.specs.Tie.{first_in, Ties}
+use Rattle.vch_legal.specs.Left.{work_left}
 use Rattle.vch_legal.proofs.Shapes.{Shape, shape_of}
 use Rattle.vch_legal.proofs.OwnSteps.{Before}
 use Rattle.vch_legal.proofs.Nexts.{Called, called, forms_at, still_open}
@@ -155,7 +155,7 @@ is_among sc t m fits task =
     below : (t n : ℕ) → (nat_lt 0 t && nat_lt t (n + 1)) ≡ true → t ≤ n
     below t n h = grind arith
 
-may_lower : (sc : Scenario) (want : Bool) (t : ℕ) (m : Machine) → Stands sc m → MayLower sc m (event sc want m t)
+may_lower : (sc : Scenario) (want : Bool) (t : ℕ) (m : Machine) → Ties sc m → MayLower sc m (event sc want m t)
 unfolding event
 may_lower sc want t m s = by_task (is_task sc t) refl
   where
@@ -166,8 +166,8 @@ may_lower sc want t m s = by_task (is_task sc t) refl
     by_task false task = tt
 
 -- an event lowers what is left
-pub event_lowers : (sc : Scenario) (want : Bool) (t : ℕ) (m n : Machine) → Stands sc m → event sc want m t ≡ Some n
-    → left sc n + 1 ≤ left sc m
+pub event_lowers : (sc : Scenario) (want : Bool) (t : ℕ) (m n : Machine) → Ties sc m → event sc want m t ≡ Some n
+    → work_left sc n + 1 ≤ work_left sc m
 event_lowers sc want t m n s e =
     let a : Lower sc m n = subst (MayLower sc m) e (may_lower sc want t m s) in
     let b : phases_in n.past ≡ phases_in m.past = (leaves_of sc want t (t + 1) m n (apart t) e).phases in
@@ -178,7 +178,7 @@ event_lowers sc want t m n s e =
     apart t = λ e. absurd (omega arith)
 
 -- and so does the end of a phase
-pub phase_lowers : (sc : Scenario) (m n : Machine) → phase_event sc m ≡ Some n → left sc n + 1 ≤ left sc m
+pub phase_lowers : (sc : Scenario) (m n : Machine) → phase_event sc m ≡ Some n → work_left sc n + 1 ≤ work_left sc m
 unfolding phase_event
 phase_lowers sc m n e = by_test _ refl e
   where
@@ -193,21 +193,21 @@ phase_lowers sc m n e = by_test _ refl e
 
     by_test : (b : Bool) → (all_at_rest sc m && nat_lt (phases_in m.past)
         (length sc.phases)) ≡ b → (if b then Some (noted m entries.Phase) else None) ≡ Some n
-        → left sc n + 1 ≤ left sc m
-    by_test true h g = subst (λ (x : Machine). left sc x + 1 ≤ left sc m) (some_eq g)
+        → work_left sc n + 1 ≤ work_left sc m
+    by_test true h g = subst (λ (x : Machine). work_left sc x + 1 ≤ work_left sc m) (some_eq g)
         (let k : phases_in m.past < length sc.phases = below _ _
         (right (all_at_rest sc m) _ h) in omega arith)
     by_test false h g = cc
 
-pub move_lowers : (sc : Scenario) (m n : Machine) (move : Move) → Stands sc m → happens sc m move ≡ Some n
-    → left sc n + 1 ≤ left sc m
+pub move_lowers : (sc : Scenario) (m n : Machine) (move : Move) → Ties sc m → happens sc m move ≡ Some n
+    → work_left sc n + 1 ≤ work_left sc m
 move_lowers sc m n (Move.Of t want) s e = event_lowers sc want t m n s e
 move_lowers sc m n Move.EndPhase s e = phase_lowers sc m n e
 
 -- a run has no more moves than were left
-run_bound : (sc : Scenario) (moves : List Move) (m n : Machine) → Stands sc m → run sc moves (Some m) ≡ Some n
-    → length moves + left sc n ≤ left sc m
-run_bound sc [] m n s e = let g : m ≡ n = some_eq e in subst (λ (x : Machine). 0 + left sc x ≤ left sc m) g
+run_bound : (sc : Scenario) (moves : List Move) (m n : Machine) → Ties sc m → run sc moves (Some m) ≡ Some n
+    → length moves + work_left sc n ≤ work_left sc m
+run_bound sc [] m n s e = let g : m ≡ n = some_eq e in subst (λ (x : Machine). 0 + work_left sc x ≤ work_left sc m) g
     (omega arith)
   where
     some_eq : {x y : Machine} → Some x ≡ Some y → x ≡ y
@@ -215,18 +215,18 @@ run_bound sc [] m n s e = let g : m ≡ n = some_eq e in subst (λ (x : Machine)
 run_bound sc (move ∷ moves) m n s e = by_move (happens sc m move) refl e (λ k. run_bound sc moves k n)
   where
     by_move : (o : Option Machine) → happens sc m move ≡ o → run sc moves o ≡ Some n
-        → ((k : Machine) → Stands sc k → run sc moves (Some k) ≡ Some n → length moves + left sc n ≤ left sc k)
-        → suc (length moves) + left sc n ≤ left sc m
+        → ((k : Machine) → Ties sc k → run sc moves (Some k) ≡ Some n → length moves + work_left sc n ≤ work_left sc k)
+        → suc (length moves) + work_left sc n ≤ work_left sc m
     by_move None g h rec = cc
     by_move (Some k) g h rec =
-        let a : length moves + left sc n ≤ left sc k = rec k (happens_stands sc m k move s g) h in
-        let b : left sc k + 1 ≤ left sc m = move_lowers sc m k move s g in omega arith
+        let a : length moves + work_left sc n ≤ work_left sc k = rec k (happens_stands sc m k move s g) h in
+        let b : work_left sc k + 1 ≤ work_left sc m = move_lowers sc m k move s g in omega arith
 
 pub run_bounded : (sc : Scenario) (moves : List Move) (n : Machine) → run_from_start sc moves ≡ Some n
-    → length moves + left sc n ≤ left sc (start sc)
+    → length moves + work_left sc n ≤ work_left sc (start sc)
 run_bounded sc moves n e = run_bound sc moves (start sc) n (start_stands sc) e
 
 -- along every run
 pub reached_lowers : (sc : Scenario) (moves : List Move) (move : Move) (m n : Machine) → run_from_start sc moves
-    ≡ Some m → happens sc m move ≡ Some n → left sc n + 1 ≤ left sc m
+    ≡ Some m → happens sc m move ≡ Some n → work_left sc n + 1 ≤ work_left sc m
 reached_lowers sc moves move m n e h = move_lowers sc m n move (reached_stands sc moves m e) h

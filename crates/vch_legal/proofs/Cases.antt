@@ -23,7 +23,7 @@ use Rattle.vch_legal.specs.Facts.{Fits, FrameFits, OptionFits, spot}
 use Rattle.vch_legal.proofs.TaskLists.{IsAmong}
 use Rattle.vch_legal.proofs.BeginSpots.{InRange, begun_spot, begin_spot}
 use Rattle.vch_legal.proofs.Shapes.{Shape, shape_of}
-use Rattle.vch_legal.proofs.BeginOwn.{Begins, call_begins}
+use Rattle.vch_legal.proofs.BeginOwn.{BeginsOwn, call_begins}
 use Rattle.vch_legal.proofs.PlainEvents.{Plain, Underway, Forms, refuse_plain, work_plain, lost_plain, create_plain, send_plain, recv_plain}
 use Rattle.vch_legal.proofs.ExitEvents.{exit_plain}
 
@@ -161,7 +161,7 @@ counted m t = with_tasked m t (begun_one (tasked m t))
 
 begin_plain : (sc : Scenario) (t : ℕ) (m o : Machine) (call : Call) → IsAmong t m.tasks
     → nth_call sc t ((tasked m t).begun + 1) ≡ Some call
-    → Begins sc t call (counted m t) o → ((p : Place) → spot o p ≡ spot m p) → Plain sc t m o
+    → BeginsOwn sc t call (counted m t) o → ((p : Place) → spot o p ≡ spot m p) → Plain sc t m o
 begin_plain sc t m o call l line b spots = record {
   live = b.near.live;
   pools = b.near.pools;

@@ -13,7 +13,7 @@ use Rattle.vch_machine.specs.Next.{next_kind, task_next, nth_call, call_next, fr
 use Rattle.vch_machine.specs.Placing.{do_place}
 use Rattle.vch_machine.specs.Working.{do_work}
 use Rattle.vch_legal.specs.Facts.{FrameFits, OptionFits, Fits}
-use Rattle.vch_legal.specs.Tie.{Stands}
+use Rattle.vch_legal.specs.Tie.{Ties}
 use Rattle.vch_model.specs.Legal.{is_exit}
 use Rattle.vch_legal.proofs.Choices.{cases_bool, not_true}
 use Rattle.vch_legal.proofs.TaskLists.{IsAmong}
@@ -221,7 +221,7 @@ pub record Happened (sc : Scenario) (t : ℕ) (m : Machine) (o : Option Machine)
   pub task : is_some o ≡ true → is_task sc t ≡ true
   pub step : is_some o ≡ true → MayStep sc t m o
 
-pub event_happens : (sc : Scenario) (want : Bool) (t : ℕ) (m : Machine) → Stands sc m
+pub event_happens : (sc : Scenario) (want : Bool) (t : ℕ) (m : Machine) → Ties sc m
     → Happened sc t m (event sc want m t)
 unfolding event
 event_happens sc want t m s = by_task (is_task sc t) refl
@@ -236,8 +236,8 @@ event_happens sc want t m s = by_task (is_task sc t) refl
     by_task false task = record { task = λ h. let k : false ≡ true = h in cc; step = λ _. tt }
 
 -- every event keeps all that stands
-pub event_stands : (sc : Scenario) (want : Bool) (t : ℕ) (m n : Machine) → Stands sc m → event sc want m t ≡ Some n
-    → Stands sc n
+pub event_stands : (sc : Scenario) (want : Bool) (t : ℕ) (m n : Machine) → Ties sc m → event sc want m t ≡ Some n
+    → Ties sc n
 event_stands sc want t m n s e =
     stands_after sc want t m n s (happened.task some) e fits (subst (MayStep sc t m) e (happened.step some) fits)
   where

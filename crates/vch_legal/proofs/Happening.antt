@@ -9,12 +9,12 @@ use Rattle.vch_machine.specs.Events.{event, phase_event, all_at_rest, numbers, r
 use Rattle.vch_machine.specs.Next.{next_kind}
 use Rattle.vch_machine.specs.PlainRuns.{never}
 use Rattle.vch_machine.specs.Schedules.{Move, happens, move_of, picked, has_ended}
-use Rattle.vch_legal.specs.Tie.{Stands}
+use Rattle.vch_legal.specs.Tie.{Ties}
 use Rattle.vch_legal.proofs.Possible.{event_some}
 use Rattle.vch_legal.proofs.Turns.{all_tasks}
 use Rattle.vch_legal.proofs.ScheduleRuns.{phase_some, all_ready, seed_some}
 
-pub next_happens : (sc : Scenario) (want : Bool) (t : ℕ) (m : Machine) (kind : Kind) → Stands sc m → is_task sc t ≡ true
+pub next_happens : (sc : Scenario) (want : Bool) (t : ℕ) (m : Machine) (kind : Kind) → Ties sc m → is_task sc t ≡ true
     → next_kind sc m t ≡ Some kind → is_some (event sc want m t) ≡ true
 next_happens sc want t m kind s task e = event_some sc want t m s task (ap is_some e)
 
@@ -23,7 +23,7 @@ pub phase_ends : (sc : Scenario) (m : Machine) → all_at_rest sc m ≡ true →
 phase_ends sc m e over = phase_some sc m e over
 
 -- some move can happen
-pub some_move : (sc : Scenario) (m : Machine) → Stands sc m → has_ended sc m ≡ false
+pub some_move : (sc : Scenario) (m : Machine) → Ties sc m → has_ended sc m ≡ false
     → (move : Move) × (is_some (happens sc m move) ≡ true)
 some_move sc m s over = (
   move_of never 0 (picked (ready sc m (numbers (length sc.flags))) 0),

@@ -27,7 +27,7 @@ use Rattle.vch_legal.proofs.LeftMakes.{MayLower, few_managed}
 use Rattle.vch_legal.proofs.LeftPlaces.{fewer_owned, one_less_few, queue_owned}
 
 -- a task that begins its next call
-record Begins (sc : Scenario) (t : ℕ) (m : Machine) (call : Call) : Type 0 where
+record BeginsCall (sc : Scenario) (t : ℕ) (m : Machine) (call : Call) : Type 0 where
   among : IsAmong t m.tasks
   frame : (tasked m t).frame ≡ None
   there : nth_call sc t ((tasked m t).begun + 1) ≡ Some call
@@ -47,7 +47,7 @@ line_over (x ∷ xs) (suc i) call e = ap (λ n. lines_left (drop n (x ∷ xs)) +
     next : (i : ℕ) → suc i + 1 ≡ suc (i + 1)
     next i = omega arith
 
-counted_left : (sc : Scenario) (t : ℕ) (m : Machine) (call : Call) → Begins sc t m call
+counted_left : (sc : Scenario) (t : ℕ) (m : Machine) (call : Call) → BeginsCall sc t m call
     → Left sc (counted m t) + call_left call ≡ Left sc m
 counted_left sc t m call c =
     over _ _ _ _ _ _ (call_left call) (owned_left (tasked m t)) (task_set sc t m (begun_one (tasked m t)) c.among)
@@ -81,14 +81,14 @@ call_some calls.Live = omega arith
 call_some calls.Exit = omega arith
 
 -- the call is answered, in a state with so much more left
-over_with : (sc : Scenario) (t k : ℕ) (m mid : Machine) (call : Call) (reply : Reply) → Begins sc t m call
+over_with : (sc : Scenario) (t k : ℕ) (m mid : Machine) (call : Call) (reply : Reply) → BeginsCall sc t m call
     → Left sc mid ≤ Left sc (counted m t) + k → k + 1 ≤ call_left call → Lower sc m (replied mid t call reply)
 over_with sc t k m mid call reply c more few = less _ _ _ _ k more (counted_left sc t m call c) few
   where
     less : (a b c d k : ℕ) → a ≤ b + k → b + d ≡ c → k + 1 ≤ d → a + 1 ≤ c
     less a b c d k p q r = omega arith
 
-answered_lower : (sc : Scenario) (t : ℕ) (m : Machine) (call : Call) (reply : Reply) → Begins sc t m call
+answered_lower : (sc : Scenario) (t : ℕ) (m : Machine) (call : Call) (reply : Reply) → BeginsCall sc t m call
     → Lower sc m (replied (counted m t) t call reply)
 answered_lower sc t m call reply c =
     over_with sc t 0 m (counted m t) call reply c (same (Left sc (counted m t))) (some _ (call_some call))
@@ -120,7 +120,7 @@ begun_frame v ks = record {
 
 -- a frame begins
 fresh_lower : (sc : Scenario) (t : ℕ) (m : Machine) (call : Call) (v : Option Handles) (ks : List Key)
-    → Begins sc t m call
+    → BeginsCall sc t m call
     → event_left * steps_left sc.version (Some call) 0 ks + 1 ≤ call_left call
     → Lower sc m (with_frame (counted m t) t (Some (begun_frame v ks)))
 fresh_lower sc t m call v ks c few =
@@ -134,7 +134,7 @@ fresh_lower sc t m call v ks c few =
     less a b c d e f g p q r s = omega arith
 
 -- a voucher's handles are let go
-drop_lower : (sc : Scenario) (t : ℕ) (m : Machine) (name : ℕ) (reply : Reply) → Begins sc t m (calls.GiveUp name)
+drop_lower : (sc : Scenario) (t : ℕ) (m : Machine) (name : ℕ) (reply : Reply) → BeginsCall sc t m (calls.GiveUp name)
     → Lower sc m (dropped (counted m t) t (calls.GiveUp name) reply (handles_of (tasked (counted m t) t).names name)
     name)
 drop_lower sc t m name reply c =
@@ -182,7 +182,7 @@ one_key k None = omega arith
 one_key k (Some h) = omega arith
 
 send_named : (sc : Scenario) (t : ℕ) (m : Machine) (to : ℕ) (moving : Bool) (name id : ℕ) (reply : Reply)
-    (v : Option Handles) → Begins sc t m (calls.Send to moving name id)
+    (v : Option Handles) → BeginsCall sc t m (calls.Send to moving name id)
     → Lower sc m (elim v [
       | None ↦ replied (counted m t) t (calls.Send to moving name id) reply
       | Some w
@@ -198,7 +198,7 @@ send_named sc t m to moving name id reply (Some w) c =
 
 -- a send without a voucher
 bare_lower : (sc : Scenario) (t : ℕ) (m : Machine) (to : ℕ) (moving : Bool) (name id : ℕ) (reply : Reply) (q : Message)
-    → Begins sc t m (calls.Send to moving name id)
+    → BeginsCall sc t m (calls.Send to moving name id)
     → Lower sc m (replied (if is_full sc (counted m t) to then counted m t else enqueued (counted m t) to q) t
     (calls.Send to moving name id) reply)
 bare_lower sc t m to moving name id reply q c =
@@ -225,7 +225,7 @@ taken_left sc t m (q ∷ queue) e =
     fewer : (n a b : ℕ) → a ≡ suc b → event_left * (n + b) ≤ event_left * (n + a) + 0
     fewer n a b e = omega arith
 
-recv_begin : (sc : Scenario) (t : ℕ) (m : Machine) (reply : Reply) (v : Option Handles) → Begins sc t m calls.Recv
+recv_begin : (sc : Scenario) (t : ℕ) (m : Machine) (reply : Reply) (v : Option Handles) → BeginsCall sc t m calls.Recv
     → Lower sc m (begin_recv (counted m t) t calls.Recv reply v)
 recv_begin sc t m reply None c = over_with sc t 0 m (dequeued (counted m t) t (tasked (counted m t) t).queue)
     calls.Recv reply c (taken_left sc t (counted m t) (tasked (counted m t) t).queue refl) (omega arith)
@@ -246,7 +246,7 @@ create_few version bytes short = rw short (few (length bytes) _ (few_managed ver
         → event_left * (2 + n + k) + 1 ≤ 10 + event_left * (2 + length every_key + n)
     few n k h = omega arith
 
-begin_lower : (sc : Scenario) (want : Bool) (t : ℕ) (m : Machine) (call : Call) (reply : Reply) → Begins sc t m call
+begin_lower : (sc : Scenario) (want : Bool) (t : ℕ) (m : Machine) (call : Call) (reply : Reply) → BeginsCall sc t m call
     → Lower sc m (begin_call sc want (counted m t) t call reply)
 begin_lower sc want t m (calls.Create bytes) reply c =
     create_if sc m _ _ (length bytes == 0) (nat_lt ARRAY_BYTES (length bytes))

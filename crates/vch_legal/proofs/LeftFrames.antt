@@ -13,7 +13,7 @@ use Rattle.vch_machine.specs.State.{Handles, Place, Claim, Frame, Machine, taske
 use Rattle.vch_machine.specs.Frames.{closed, with_frame, tallied, refuse}
 use Rattle.vch_machine.specs.Leaving.{claim_if, new_claim, do_let_go, released, with_answer, one_ask, do_ask, again, do_recheck}
 use Rattle.vch_machine.specs.Naming.{option_places}
-use Rattle.vch_machine.specs.Working.{Worked, work_first, work_done, size_of}
+use Rattle.vch_machine.specs.Working.{WorkDone, work_first, work_done, size_of}
 use Rattle.vch_legal.specs.Facts.{most_lets}
 use Rattle.vch_legal.specs.Left.{event_left, steps_left, claim_left, receipt_left, answer_left, steps_with, frame_left}
 use Rattle.vch_legal.proofs.OwnTask.{option_few, work_few}
@@ -210,7 +210,7 @@ pub work_lower : (sc : Scenario) (t : ℕ) (m : Machine) (f : Frame) (v : Handle
     (work_first sc.version (tasked m t).names (first_of (drop f.at_byte bytes)) v))
 work_lower sc t m f v bytes c receipt lets = by_first (first_of (drop f.at_byte bytes)) refl
   where
-    by_result : (r : Recipe) (rest : List ℕ) (x : Result Worked ℤ) → first_of (drop f.at_byte bytes) ≡ One r rest
+    by_result : (r : Recipe) (rest : List ℕ) (x : Result WorkDone ℤ) → first_of (drop f.at_byte bytes) ≡ One r rest
         → work_first sc.version (tasked m t).names (One r rest) v ≡ x → Lower sc m
         (work_done m t f (calls.Create bytes) (16 + length r.content) x)
     by_result r rest (Err code) e g = refuse_lower sc t m f (calls.Create bytes) code c

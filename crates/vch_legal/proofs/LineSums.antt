@@ -13,7 +13,7 @@ use Rattle.vch_model.specs.declared.lists.Scenario.{Scenario}
 use Rattle.vch_model.specs.Lines.{lines_from, lines_of}
 use Rattle.vch_model.specs.Scenarios.{line_count}
 use Rattle.vch_machine.specs.State.{start, idle}
-use Rattle.vch_legal.specs.Left.{event_left, call_left, lines_left, tasks_left, left, largest_call}
+use Rattle.vch_legal.specs.Left.{event_left, call_left, lines_left, tasks_left, work_left, largest_call}
 
 abbrev Numbered : Type 0
 Numbered = ℕ × Line
@@ -140,7 +140,7 @@ tasks_few sc t (f ∷ flags) =
     tasks_few sc (t + 1) flags in
     omega (arith, a, b)
 
-pub start_few : (sc : Scenario) → left sc (start sc) ≤ largest_call * line_count sc.phases + length sc.phases
+pub start_few : (sc : Scenario) → work_left sc (start sc) ≤ largest_call * line_count sc.phases + length sc.phases
 start_few sc =
     let a : tasks_left sc 1 (map (λ _. idle) sc.flags) ≤ largest_call * lines_of_tasks sc 1 (length sc.flags) =
     tasks_few sc 1 sc.flags in

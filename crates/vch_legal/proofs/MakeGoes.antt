@@ -9,7 +9,7 @@ use Rattle.vch_base.specs.Keyed.{of_key, with_key}
 use Rattle.vch_base.specs.Keys.{number_of, managed, key_of}
 use Rattle.vch_base.specs.declared.kind.Kind.TheVariants as kinds
 use Rattle.vch_base.specs.declared.value.Value.{Value}
-use Rattle.vch_base.specs.Managers.{sent, mapped}
+use Rattle.vch_base.specs.Managers.{preprocessed, mapped}
 use Rattle.vch_recipe.specs.Recipes.{First, One, End, HeaderCut, ContentCut, first_of}
 use Rattle.vch_recipe.specs.declared.recipe.Recipe.{Recipe}
 use Rattle.vch_model.specs.declared.call.Call.{Call}
@@ -102,19 +102,19 @@ some_asked x y h = cc
 send_goes : (sc : Scenario) (t : ℕ) (m : Machine) (f : Frame) (v : Handles) (to : ℕ) (moving : Bool) (name id : ℕ)
     (ks : List Key) (a : Asked) → f.keys ≡ ks
     → FormsSend sc (seen_names m.live (tasked m t).names) t to name ks (valued m.live v)
-    → asked_transfer m.live (sent t) ks v ≡ Some a → GoesOn sc t m f v (calls.Send to moving name id) a.key a.reply
+    → asked_transfer m.live (preprocessed t) ks v ≡ Some a → GoesOn sc t m f v (calls.Send to moving name id) a.key a.reply
 send_goes sc t m f v to moving name id [] a e forms h = cc
 send_goes sc t m f v to moving name id (k ∷ ks) a e forms h =
     subst (λ (x : Asked). GoesOn sc t m f v (calls.Send to moving name id) x.key x.reply) (some_asked _ a h)
     (subst (λ (gs : List Key). FormsSend sc (seen_names m.live (tasked m t).names) t to name (tail_keys gs)
-    (with_key k (mapped (sent t) (value_at m.live k (of_key k v))) (valued m.live v))) (sym e)
+    (with_key k (mapped (preprocessed t) (value_at m.live k (of_key k v))) (valued m.live v))) (sym e)
     (record {
       to_task = forms.to_task;
       is_named = forms.is_named;
       voucher = forms.voucher;
       known = forms.known;
-      made = transfer_made m.live (sent t) k ks v (before t forms.voucher) forms.made;
-      evaluated = transfer_done m.live (sent t) sent_keys k ks v forms.voucher forms.evaluated;
+      made = transfer_made m.live (preprocessed t) k ks v (before t forms.voucher) forms.made;
+      evaluated = transfer_done m.live (preprocessed t) sent_keys k ks v forms.voucher forms.evaluated;
       asked = λ _. forms.asked refl;
       keys_managed = forms.keys_managed.1;
     }))
@@ -213,7 +213,7 @@ asked_managed sc t m f v (calls.Create bytes) a forms h =
     first_managed sc.version m.live (tasked m t).names t f.keys v (first_of (drop f.at_byte bytes)) a
     forms.keys_managed h
 asked_managed sc t m f v (calls.Send to moving name id) a forms h =
-    transfer_managed sc.version m.live (sent t) f.keys v a forms.keys_managed h
+    transfer_managed sc.version m.live (preprocessed t) f.keys v a forms.keys_managed h
 asked_managed sc t m f v calls.Recv a forms h =
     transfer_managed sc.version m.live (received_value sc t) f.keys v a forms.keys_managed h
 asked_managed sc t m f v (calls.GiveUp name) a forms h = absurd forms

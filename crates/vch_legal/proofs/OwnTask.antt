@@ -25,7 +25,7 @@ use Rattle.vch_machine.specs.Beginning.{enqueued}
 use Rattle.vch_machine.specs.Frames.{with_frame, noted, replied}
 use Rattle.vch_machine.specs.Naming.{item, places, option_places, is_known, orphaned, doubled, with_name, handles_of}
 use Rattle.vch_machine.specs.Next.{current, nth_call}
-use Rattle.vch_machine.specs.Working.{Worked, changed, changed_at, changed_each, changed_keys, copied, copies, removes, worked, worked_with, work_first}
+use Rattle.vch_machine.specs.Working.{WorkDone, changed, changed_at, changed_each, changed_keys, copied, copies, removes, worked, worked_with, work_first}
 use Rattle.vch_legal.specs.Facts.{SendsToTasks, most_lets}
 
 -- a property of a task, where a task of the list is replaced
@@ -181,17 +181,17 @@ pub doubled_few : (m : Machine) (v : Handles) → length (doubled m v) ≤ lengt
 doubled_few m v = if_few (is_known m v) (length every_key) (places v) [] (places_few v) (none_few (length every_key))
 
 -- what is let go by Work
-abbrev LeftFew : ℕ → Result Worked ℤ → Type 0
+abbrev LeftFew : ℕ → Result WorkDone ℤ → Type 0
 LeftFew n (Ok w) = length w.left ≤ n
 LeftFew n (Err code) = Unit {0}
 
-changed_few : (k : Key) (x : Option (Option ℕ)) (w : Worked) → length (changed k x w).left ≤ length w.left + 1
+changed_few : (k : Key) (x : Option (Option ℕ)) (w : WorkDone) → length (changed k x w).left ≤ length w.left + 1
 changed_few k None w = omega arith
 changed_few k (Some x) w =
     rw (length-append w.left (item k (of_key k w.forming))) (let i : length
     (item k (of_key k w.forming)) ≤ 1 = item_few k (of_key k w.forming) in omega arith)
 
-each_few : (f : Key → Option (Option ℕ)) (ks : List Key) (w : Worked)
+each_few : (f : Key → Option (Option ℕ)) (ks : List Key) (w : WorkDone)
     → length (changed_each f ks w).left ≤ length w.left + length ks
 each_few f [] w = omega arith
 each_few f (k ∷ ks) w =
@@ -208,17 +208,17 @@ managed_few version = by_test (version == 2)
     by_test true = omega arith
     by_test false = omega arith
 
-left_if : (b : Bool) (n : ℕ) (x y : Result Worked ℤ) → LeftFew n x → LeftFew n y → LeftFew n (if b then x else y)
+left_if : (b : Bool) (n : ℕ) (x y : Result WorkDone ℤ) → LeftFew n x → LeftFew n y → LeftFew n (if b then x else y)
 left_if true n x y h k = h
 left_if false n x y h k = k
 
-at_few : (f : Key → Option (Option ℕ)) (k : Option Key) (w : Worked) → length w.left ≤ 0
+at_few : (f : Key → Option (Option ℕ)) (k : Option Key) (w : WorkDone) → length w.left ≤ 0
     → LeftFew (length every_key) (changed_at f k w)
 at_few f None w h = tt
 at_few f (Some k) w h = let i : length (changed k (f k) w).left ≤ length w.left + 1 = changed_few k (f k) w in
     omega arith
 
-keys_few : (version : ℕ) (f : Key → Option (Option ℕ)) (key : ℕ) (w : Worked) → length w.left ≤ 0
+keys_few : (version : ℕ) (f : Key → Option (Option ℕ)) (key : ℕ) (w : WorkDone) → length w.left ≤ 0
     → LeftFew (length every_key) (changed_keys version f key w)
 keys_few version f key w h =
     left_if (key == ALL_KEYS) (length every_key) _ _
@@ -229,15 +229,15 @@ keys_few version f key w h =
     joined : (a b c d : ℕ) → a ≤ b + c → b ≤ 0 → c ≤ d → a ≤ d
     joined a b c d x y z = omega arith
 
-none_left : (w : Worked) → length w.left ≤ 0 → length w.left ≤ length every_key
+none_left : (w : WorkDone) → length w.left ≤ 0 → length w.left ≤ length every_key
 none_left w h = omega arith
 
-copied_few : (version : ℕ) (previous : Option Handles) (key : ℕ) (w : Worked) → length w.left ≤ 0
+copied_few : (version : ℕ) (previous : Option Handles) (key : ℕ) (w : WorkDone) → length w.left ≤ 0
     → LeftFew (length every_key) (copied version previous key w)
 copied_few version None key w h = none_left w h
 copied_few version (Some v) key w h = keys_few version (copies (Some v) w.forming) key w h
 
-worked_few : (version : ℕ) (r : Recipe) (previous : Option Handles) (w : Worked) → length w.left ≤ 0
+worked_few : (version : ℕ) (r : Recipe) (previous : Option Handles) (w : WorkDone) → length w.left ≤ 0
     → LeftFew (length every_key) (worked version r previous w)
 worked_few version r previous w h =
     left_if (is_core_command r.command) (length every_key) _ _ tt
@@ -248,7 +248,7 @@ worked_few version r previous w h =
     (keys_few version (removes previous w.forming) r.key w h))))
     tt)
 
-with_few : (version : ℕ) (r : Recipe) (previous : Option Handles) (w : Worked) → length w.left ≤ 0
+with_few : (version : ℕ) (r : Recipe) (previous : Option Handles) (w : WorkDone) → length w.left ≤ 0
     → LeftFew (length every_key) (worked_with version r previous w)
 with_few version r None w h = tt
 with_few version r (Some v) w h = worked_few version r (Some v) w h
@@ -266,7 +266,7 @@ first_few version names (First.ContentCut wanted left) map = tt
 pub one_few : (lets a : List Place) → lets ≡ [] → length a ≤ length every_key → length (lets ++ a) ≤ most_lets
 one_few lets a e h = rw e (omega arith)
 
-pub work_few : (version : ℕ) (names : List Named) (first : First) (map : Handles) (lets : List Place) (w : Worked)
+pub work_few : (version : ℕ) (names : List Named) (first : First) (map : Handles) (lets : List Place) (w : WorkDone)
     → work_first version names first map ≡ Ok w → lets ≡ [] → length (lets ++ w.left) ≤ most_lets
 work_few version names first map lets w e empty = one_few lets w.left empty
     (subst (LeftFew (length every_key)) e (first_few version names first map))

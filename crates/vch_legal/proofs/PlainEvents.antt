@@ -13,7 +13,7 @@ use Rattle.vch_machine.specs.Frames.{closed, refuse, with_frame}
 use Rattle.vch_machine.specs.Making.{make_done, moved}
 use Rattle.vch_machine.specs.Naming.{item, option_places, one_less, handles_of, orphaned, doubled, name_of, with_name}
 use Rattle.vch_machine.specs.Placing.{place_create, place_send, place_recv, ended, moved_name}
-use Rattle.vch_machine.specs.Working.{work_done, first_at, size_of, work_first, Worked}
+use Rattle.vch_machine.specs.Working.{work_done, first_at, size_of, work_first, WorkDone}
 use Rattle.vch_legal.specs.Facts.{FrameFits, OptionFits, SendsToTasks, ExitsFormNothing, spot, most_lets}
 use Rattle.vch_legal.proofs.FrameSpots.{kept_named}
 use Rattle.vch_legal.proofs.ReferSpots.{holds_eq, moved_same}
@@ -100,7 +100,7 @@ refuse_plain sc t m f v call code u =
     (λ p. refuse_spot m t f call code p u.under.frame)
 
 -- Work.
-pub work_plain : (sc : Scenario) (t : ℕ) (m : Machine) (f : Frame) (v : Handles) (call : Call) (r : Result Worked ℤ)
+pub work_plain : (sc : Scenario) (t : ℕ) (m : Machine) (f : Frame) (v : Handles) (call : Call) (r : Result WorkDone ℤ)
     → Forms sc t m f v → work_first sc.version (tasked m t).names (first_at f call) v ≡ r
     → Plain sc t m (work_done m t f call (size_of (first_at f call)) r)
 work_plain sc t m f v call (Err code) u eq = refuse_plain sc t m f v call code u

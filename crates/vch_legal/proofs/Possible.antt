@@ -26,7 +26,7 @@ use Rattle.vch_machine.specs.Making.{keys_left, head_key, Asked, asked_by, asked
 use Rattle.vch_machine.specs.Next.{next_kind, task_next, nth_call, call_in, known_name, first_next, call_next, unanswered_next, lets_next, unclaimed_next, frame_next}
 use Rattle.vch_machine.specs.Placing.{do_place}
 use Rattle.vch_legal.specs.Facts.{Fits, OptionFits}
-use Rattle.vch_legal.specs.Tie.{Forms, Stands}
+use Rattle.vch_legal.specs.Tie.{Forms, Ties}
 use Rattle.vch_legal.proofs.Choices.{cases_bool}
 use Rattle.vch_legal.proofs.OwnSteps.{Before}
 use Rattle.vch_legal.proofs.CallKinds.{not_other}
@@ -271,7 +271,7 @@ begun_some sc want m t None e = cc
 begun_some sc want m t (Some call) e = refl
 
 -- an event that is next can happen
-pub event_some : (sc : Scenario) (want : Bool) (t : ℕ) (m : Machine) → Stands sc m → is_task sc t ≡ true
+pub event_some : (sc : Scenario) (want : Bool) (t : ℕ) (m : Machine) → Ties sc m → is_task sc t ≡ true
     → is_some (next_kind sc m t) ≡ true → is_some (event sc want m t) ≡ true
 unfolding event
 event_some sc want t m s task e = rw task (by_frame (tasked m t).frame (next_kind sc m t) refl refl e)

@@ -12,14 +12,14 @@ use Rattle.vch_model.specs.Eval.{answer_to, put_answer, previous_value, ask_at, 
 use Rattle.vch_model.specs.Eval as evals
 use Rattle.vch_machine.specs.State.{Handles, Living, value_at, valued, valued_option}
 use Rattle.vch_machine.specs.Naming.{same_handle}
-use Rattle.vch_machine.specs.Working.{Worked, copies, removes, changed, changed_at, changed_each, changed_keys, copied}
+use Rattle.vch_machine.specs.Working.{WorkDone, copies, removes, changed, changed_at, changed_each, changed_keys, copied}
 use Rattle.vch_legal.specs.Facts.{Different}
 use Rattle.vch_legal.proofs.Forming.{valued_with, same_values}
 use Rattle.vch_legal.proofs.SeenHeld.{value_at_key}
 use Rattle.vch_legal.proofs.SeenNames.{LiveAll}
 
 -- what a record that asks no manager is seen to give
-abbrev pub valued_result : List Living → Result Worked ℤ → Result Voucher ℤ
+abbrev pub valued_result : List Living → Result WorkDone ℤ → Result Voucher ℤ
 valued_result live (Ok w) = Ok (valued live w.forming)
 valued_result live (Err code) = Err code
 
@@ -27,7 +27,7 @@ abbrev apply : Key → Option (Option ℕ) → Handles → Handles
 apply k None v = v
 apply k (Some x) v = with_key k x v
 
-changed_forming : (k : Key) (o : Option (Option ℕ)) (w : Worked) → (changed k o w).forming ≡ apply k o w.forming
+changed_forming : (k : Key) (o : Option (Option ℕ)) (w : WorkDone) → (changed k o w).forming ≡ apply k o w.forming
 changed_forming k None w = refl
 changed_forming k (Some x) w = refl
 
@@ -61,7 +61,7 @@ removes_alike live p map d lp lm k v e =
     by_test true = valued_with live k None v
     by_test false = refl
 
-abbrev pub fresh_work : Handles → Worked
+abbrev pub fresh_work : Handles → WorkDone
 fresh_work map = record { forming = map; left = [] }
 
 -- keys of which none is another one
@@ -99,7 +99,7 @@ managed_distinct version = by_test (version == 2)
     by_test false = ((refl, (refl, tt)), ((refl, tt), (tt, tt)))
 
 each_alike : (live : List Living) (map : Handles) (f : Key → Option (Option ℕ)) (g : Key → Voucher → Voucher)
-    → Alike live map f g → (ks : List Key) (w : Worked) → Distinct ks → Agree ks w.forming map
+    → Alike live map f g → (ks : List Key) (w : WorkDone) → Distinct ks → Agree ks w.forming map
     → valued live (changed_each f ks w).forming ≡ each_key g ks (valued live w.forming)
 each_alike live map f g alike [] w d a = refl
 each_alike live map f g alike (k ∷ ks) w d a =
@@ -114,7 +114,7 @@ at_alike live map f g None alike = refl
 at_alike live map f g (Some k) alike = ap Ok (ap (valued live) (changed_forming k (f k) (fresh_work map))
     ∙ alike k map refl)
 
-pub if_alike : (live : List Living) (b : Bool) (x y : Result Worked ℤ) (u v : Result Voucher ℤ)
+pub if_alike : (live : List Living) (b : Bool) (x y : Result WorkDone ℤ) (u v : Result Voucher ℤ)
     → (b ≡ true → valued_result live x ≡ u) → (b ≡ false → valued_result live y ≡ v)
     → valued_result live (if b then x else y) ≡ (if b then u else v)
 if_alike live true x y u v h k = h refl

@@ -12,7 +12,7 @@ use Rattle.vch_base.specs.Keyed.{of_key}
 use Rattle.vch_base.specs.Keys.{key_of}
 use Rattle.vch_base.specs.declared.value.Value.{Value}
 use Rattle.vch_base.specs.declared.value.Value.TheVariants as values
-use Rattle.vch_base.specs.Managers.{sent, received, mapped, bare, stored, own_answer, flags_in}
+use Rattle.vch_base.specs.Managers.{preprocessed, received, mapped, bare, stored, own_answer, flags_in}
 use Rattle.vch_recipe.specs.Recipes.{First, One, End, HeaderCut, ContentCut, first_of, word_at}
 use Rattle.vch_recipe.specs.declared.recipe.Recipe.{Recipe}
 use Rattle.vch_model.specs.declared.call.Call.{Call}
@@ -74,7 +74,7 @@ abbrev AnswerBytes : Result (Option Value) ℤ → Type 0
 AnswerBytes (Ok x) = OptionBytes x
 AnswerBytes (Err code) = Unit {0}
 
-sent_bytes : (t : ℕ) (x : Value) → IsByteValue x → IsByteValue (sent t x)
+sent_bytes : (t : ℕ) (x : Value) → IsByteValue x → IsByteValue (preprocessed t x)
 sent_bytes t (values.User bytes) h = h
 sent_bytes t (values.Chain list) h = tt
 sent_bytes t values.Default h = tt
@@ -122,7 +122,7 @@ own_bytes keys.Bank tasks by command previous content h c =
     (bare_bytes content _ (mapped_bytes (received (flags_in tasks by).receiver by) previous
     (λ y g. received_bytes (flags_in tasks by).receiver by y g) h))
     (answer_if (command == commands.SEND_PREPROCESS) _ _
-    (bare_bytes content _ (mapped_bytes (sent by) previous (λ y g. sent_bytes by y g) h)) tt))
+    (bare_bytes content _ (mapped_bytes (preprocessed by) previous (λ y g. sent_bytes by y g) h)) tt))
 
 answer_bytes : (k : Key) (t command : ℕ) (previous : Option Value) (content : List ℕ) → OptionBytes previous → IsBytes content
     → AnswerBytes (answer_to k t command previous content)
@@ -176,7 +176,7 @@ by_bytes : (sc : Scenario) (m : Machine) (t : ℕ) (f : Frame) (v : Handles) (ca
 by_bytes sc m t f v (calls.Create bytes) h a =
     asked_first_bytes sc.version m.live (tasked m t).names t f.keys v (first_of (drop f.at_byte bytes)) a
     (first_bytes (drop f.at_byte bytes) (dropped f.at_byte bytes h))
-by_bytes sc m t f v (calls.Send to moving name id) h a = transfer_bytes m.live (sent t) f.keys v (λ y g. sent_bytes t y g) a
+by_bytes sc m t f v (calls.Send to moving name id) h a = transfer_bytes m.live (preprocessed t) f.keys v (λ y g. sent_bytes t y g) a
 by_bytes sc m t f v calls.Recv h a =
     transfer_bytes m.live (received_value sc t) f.keys v (λ y g. received_bytes (flags_of sc t).receiver t y g) a
 by_bytes sc m t f v (calls.GiveUp name) h a = tt

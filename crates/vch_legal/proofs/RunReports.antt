@@ -20,9 +20,9 @@ use Rattle.vch_machine.specs.State.{Machine, Living, seen, alive_of, start}
 use Rattle.vch_machine.specs.Events.{event, phase_event, all_at_rest}
 use Rattle.vch_machine.specs.Frames.{noted}
 use Rattle.vch_machine.specs.Schedules.{Move, happens, run, run_from_start}
-use Rattle.vch_legal.specs.Left.{left, largest_call}
+use Rattle.vch_legal.specs.Left.{work_left, largest_call}
 use Rattle.vch_legal.specs.Reports.{IsByteValue, IsByteEntry, IsReportable}
-use Rattle.vch_legal.specs.Tie.{Stands}
+use Rattle.vch_legal.specs.Tie.{Ties}
 use Rattle.vch_legal.proofs.Bounds.{run_bounded}
 use Rattle.vch_legal.proofs.Cases.{May, event_case}
 use Rattle.vch_legal.proofs.EachLine.{all_joined}
@@ -42,7 +42,7 @@ pub record Written (m : Machine) (moves : ℕ) : Type 0 where
   pub past : AllByRecursion IsByteEntry m.past
   pub few : length m.past ≤ moves
 
-event_follows : (sc : Scenario) (want : Bool) (t : ℕ) (m n : Machine) → Stands sc m → event sc want m t ≡ Some n → Follows sc t m n
+event_follows : (sc : Scenario) (want : Bool) (t : ℕ) (m n : Machine) → Ties sc m → event sc want m t ≡ Some n → Follows sc t m n
 event_follows sc want t m n s e =
     (subst (MayStep sc t m) e (happened.step (ap is_some e)) (event_keeps sc want t m n s.fits e)).follows
   where
@@ -91,7 +91,7 @@ written_after sc t m n k (Follows.Adds e p s c o) live h = record {
 }
 
 module _ (sc : Scenario) (w : IsWritable sc) where
-  event_written : (want : Bool) (t : ℕ) (m n : Machine) (k : ℕ) → Stands sc m → event sc want m t ≡ Some n → Written m k
+  event_written : (want : Bool) (t : ℕ) (m n : Machine) (k : ℕ) → Ties sc m → event sc want m t ≡ Some n → Written m k
       → Written n (suc k)
   event_written want t m n k s e h =
       written_after sc t m n k (event_follows sc want t m n s e)
@@ -110,11 +110,11 @@ module _ (sc : Scenario) (w : IsWritable sc) where
           (record { live = h.live; past = (tt, h.past); few = omega (arith, h.few) })
       by_test false g = absurd (cc)
 
-  move_written : (move : Move) (m n : Machine) (k : ℕ) → Stands sc m → happens sc m move ≡ Some n → Written m k → Written n (suc k)
+  move_written : (move : Move) (m n : Machine) (k : ℕ) → Ties sc m → happens sc m move ≡ Some n → Written m k → Written n (suc k)
   move_written (Move.Of t want) m n k s e h = event_written want t m n k s e h
   move_written Move.EndPhase m n k s e h = phase_written m n k e h
 
-  run_written : (moves : List Move) (m n : Machine) (k : ℕ) → Stands sc m → run sc moves (Some m) ≡ Some n → Written m k
+  run_written : (moves : List Move) (m n : Machine) (k : ℕ) → Ties sc m → run sc moves (Some m) ≡ Some n → Written m k
       → Written n (k + length moves)
   run_written [] m n k s e h = subst (λ (x : Machine). Written x (k + 0)) (some_eq e) (subst (Written m) (same k) h)
     where
@@ -130,7 +130,7 @@ module _ (sc : Scenario) (w : IsWritable sc) where
       same k j = omega arith
 
       by_move : (o : Option Machine) → happens sc m move ≡ o → run sc moves o ≡ Some n
-          → ((o : Machine) → Stands sc o → run sc moves (Some o) ≡ Some n → Written o (suc k) → Written n (suc k + length moves))
+          → ((o : Machine) → Ties sc o → run sc moves (Some o) ≡ Some n → Written o (suc k) → Written n (suc k + length moves))
           → Written n (k + suc (length moves))
       by_move None g i later = absurd (cc)
       by_move (Some o) g i later =
@@ -149,8 +149,8 @@ module _ (sc : Scenario) (w : IsWritable sc) where
   pub entries_few : (moves : List Move) (n : Machine) → run_from_start sc moves ≡ Some n → length n.past < 4294967296
   entries_few moves n e =
       let a : length n.past ≤ length moves = (reached_written moves n e).few in
-      let b : length moves + left sc n ≤ left sc (start sc) = run_bounded sc moves n e in
-      let c : left sc (start sc) ≤ largest_call * line_count sc.phases + length sc.phases = start_few sc in
+      let b : length moves + work_left sc n ≤ work_left sc (start sc) = run_bounded sc moves n e in
+      let c : work_left sc (start sc) ≤ largest_call * line_count sc.phases + length sc.phases = start_few sc in
       omega (arith, a, b, c, w.limited.calls, w.limited.phases)
 
   pub bytes_made : (moves : List Move) (n : Machine) → run_from_start sc moves ≡ Some n → AllByRecursion IsByteEntry n.past

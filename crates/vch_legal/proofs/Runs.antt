@@ -15,7 +15,7 @@ use Rattle.vch_machine.specs.Events.{phase_event, all_at_rest}
 use Rattle.vch_machine.specs.Frames.{noted}
 use Rattle.vch_machine.specs.Schedules.{Move, happens, run, run_from_start, has_ended}
 use Rattle.vch_legal.specs.Facts.{Fits, bit}
-use Rattle.vch_legal.specs.Tie.{is_answering, TaskStands, any_frame, Stands}
+use Rattle.vch_legal.specs.Tie.{is_answering, TaskStands, any_frame, Ties}
 use Rattle.vch_legal.proofs.Keeps.{start_keeps, phase_keeps, idle_task}
 use Rattle.vch_legal.proofs.PhaseLines.{all_lines, no_lines, more_lines}
 use Rattle.vch_legal.proofs.Follows.{entry_legal}
@@ -46,7 +46,7 @@ idle_stands sc t = record {
     none : {n : ℕ} → 0 ≤ n
     none = omega arith
 
-pub start_stands : (sc : Scenario) → Stands sc (start sc)
+pub start_stands : (sc : Scenario) → Ties sc (start sc)
 start_stands sc = record {
   fits = start_keeps sc;
   same_store = ap (λ tasks. record (store.start sc) { tasks = tasks }) (idle_members sc.flags);
@@ -59,14 +59,14 @@ start_stands sc = record {
 
 -- the end of a phase
 
-all_rest : (sc : Scenario) (m : Machine) → Stands sc m → all_at_rest sc m ≡ true → any_frame m.tasks ≡ false
+all_rest : (sc : Scenario) (m : Machine) → Ties sc m → all_at_rest sc m ≡ true → any_frame m.tasks ≡ false
 all_rest sc m s e =
     none_frame m.tasks (λ i l. (each_rests sc m e (suc i) (omega arith)
     (subst (λ n. suc i ≤ n) s.fits.tasks (omega arith))).frame)
 
-noted_stands : (sc : Scenario) (m : Machine) → Stands sc m → all_at_rest sc m ≡ true
+noted_stands : (sc : Scenario) (m : Machine) → Ties sc m → all_at_rest sc m ≡ true
     → nat_lt (phases_in m.past) (length sc.phases) ≡ true → Fits sc (noted m entries.Phase)
-    → Stands sc (noted m entries.Phase)
+    → Ties sc (noted m entries.Phase)
 noted_stands sc m s e more fits = record {
   fits = fits;
   same_store = s.same_store;
@@ -110,7 +110,7 @@ noted_stands sc m s e more fits = record {
               b.open_frame;
         }
 
-pub phase_stands : (sc : Scenario) (m n : Machine) → Stands sc m → phase_event sc m ≡ Some n → Stands sc n
+pub phase_stands : (sc : Scenario) (m n : Machine) → Ties sc m → phase_event sc m ≡ Some n → Ties sc n
 unfolding phase_event
 phase_stands sc m n s e = by_test (all_at_rest sc m && nat_lt (phases_in m.past)
     (length sc.phases)) refl e
@@ -125,29 +125,29 @@ phase_stands sc m n s e = by_test (all_at_rest sc m && nat_lt (phases_in m.past)
     some_eq h = cc
 
     by_test : (b : Bool) → (all_at_rest sc m && nat_lt (phases_in m.past)
-        (length sc.phases)) ≡ b → (if b then Some (noted m entries.Phase) else None) ≡ Some n → Stands sc n
-    by_test true h g = subst (Stands sc) (some_eq g)
+        (length sc.phases)) ≡ b → (if b then Some (noted m entries.Phase) else None) ≡ Some n → Ties sc n
+    by_test true h g = subst (Ties sc) (some_eq g)
         (noted_stands sc m s (left _ _ h) (right _ _ h)
         (subst (Fits sc) (sym (some_eq g)) (phase_keeps sc m n s.fits e)))
     by_test false h g = cc
 
 -- every move, and every run
 
-pub happens_stands : (sc : Scenario) (m n : Machine) (move : Move) → Stands sc m → happens sc m move ≡ Some n
-    → Stands sc n
+pub happens_stands : (sc : Scenario) (m n : Machine) (move : Move) → Ties sc m → happens sc m move ≡ Some n
+    → Ties sc n
 happens_stands sc m n (Move.Of t want) s e = event_stands sc want t m n s e
 happens_stands sc m n Move.EndPhase s e = phase_stands sc m n s e
 
 run_stands : (sc : Scenario) (moves : List Move) (o : Option Machine) (n : Machine)
-    → ((m : Machine) → o ≡ Some m → Stands sc m) → run sc moves o ≡ Some n → Stands sc n
+    → ((m : Machine) → o ≡ Some m → Ties sc m) → run sc moves o ≡ Some n → Ties sc n
 run_stands sc moves None n s e = cc
 run_stands sc [] (Some m) n s e = s n e
 run_stands sc (move ∷ moves) (Some m) n s e = run_stands sc moves (happens sc m move) n
     (λ k g. happens_stands sc m k move (s m refl) g) e
 
-pub reached_stands : (sc : Scenario) (moves : List Move) (n : Machine) → run_from_start sc moves ≡ Some n → Stands sc n
+pub reached_stands : (sc : Scenario) (moves : List Move) (n : Machine) → run_from_start sc moves ≡ Some n → Ties sc n
 reached_stands sc moves n e = run_stands sc moves (Some (start sc)) n
-    (λ m g. let k : start sc ≡ m = cc in subst (Stands sc) k (start_stands sc)) e
+    (λ m g. let k : start sc ≡ m = cc in subst (Ties sc) k (start_stands sc)) e
 
 -- the history of every run is legal
 past_legal : (sc : Scenario) (past : List Entry) → LegalPast sc past → Legal (reverse past) sc
@@ -158,7 +158,7 @@ pub run_legal : (sc : Scenario) (moves : List Move) (n : Machine) → run_from_s
 run_legal sc moves n e = past_legal sc n.past (reached_stands sc moves n e).legal
 
 -- where all phases have ended it is whole
-ended_past : (sc : Scenario) (m : Machine) → Stands sc m → has_ended sc m ≡ true → Ended sc m.past
+ended_past : (sc : Scenario) (m : Machine) → Ties sc m → has_ended sc m ≡ true → Ended sc m.past
 ended_past sc m s over = record {
   calls = each_task (length sc.flags) _ (λ t a b. all_answered t (s.tasks t (task_of sc t a b)));
   phases = at_end _ _ s.phases ended;

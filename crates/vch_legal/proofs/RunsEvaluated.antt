@@ -11,7 +11,7 @@ use Rattle.vch_model.specs.Lines.{is_task}
 use Rattle.vch_machine.specs.State.{Handles, Place, Frame, Machine, idle, tasked, valued, member_of}
 use Rattle.vch_machine.specs.Next.{current}
 use Rattle.vch_machine.specs.Schedules.{Move, run_from_start}
-use Rattle.vch_legal.specs.Tie.{Forms, FrameForms, IsForming, AsksAt, Stands}
+use Rattle.vch_legal.specs.Tie.{Forms, FrameForms, IsForming, AsksAt, Ties}
 use Rattle.vch_legal.specs.Evaluated.{WasEvaluated, IsSoFar}
 use Rattle.vch_legal.proofs.TaskItems.{at_map}
 use Rattle.vch_legal.proofs.Runs.{reached_stands}
@@ -36,7 +36,7 @@ pub run_evaluated : (sc : Scenario) (moves : List Move) (n : Machine) (t : ℕ) 
     → current sc n t ≡ Some call → IsSoFar sc n t f v call f.receipt
 run_evaluated sc moves n t f v call e task frame forming now = by_receipt f.receipt formed
   where
-    s : Stands sc n
+    s : Ties sc n
     s = reached_stands sc moves n e
 
     same : member (store_of sc n.past) t ≡ member_of n.live (tasked n t)

@@ -6,8 +6,8 @@ use Rattle.vch_model.specs.Scenarios.{IsLimited}
 use Rattle.vch_machine.specs.State.{Machine, start}
 use Rattle.vch_machine.specs.Events.{numbers, ready}
 use Rattle.vch_machine.specs.Schedules.{Move, happens, run, run_from_start, lowest_open, turn_task, move_of, has_ended, in_turn, picked, seed_after, by_seed}
-use Rattle.vch_legal.specs.Tie.{Stands}
-use Rattle.vch_legal.specs.Left.{left}
+use Rattle.vch_legal.specs.Tie.{Ties}
+use Rattle.vch_legal.specs.Left.{work_left}
 use Rattle.vch_legal.proofs.Choices.{cases_bool}
 use Rattle.vch_legal.proofs.Runs.{start_stands, happens_stands}
 use Rattle.vch_legal.proofs.Turns.{all_tasks}
@@ -22,18 +22,18 @@ abbrev Ends : Scenario → List Move → Option Machine → Type 0
 Ends sc moves o = (k : Machine) → run sc moves o ≡ Some k → has_ended sc k ≡ true
 
 -- one move, and what follows
-then_ends : (sc : Scenario) (m : Machine) (move : Move) (n : ℕ) (rest : Option Machine → List Move) → Stands sc m
-    → is_some (happens sc m move) ≡ true → left sc m < suc n
-    → ((k : Machine) → Stands sc k → left sc k < n → Ends sc (rest (Some k)) (Some k))
+then_ends : (sc : Scenario) (m : Machine) (move : Move) (n : ℕ) (rest : Option Machine → List Move) → Ties sc m
+    → is_some (happens sc m move) ≡ true → work_left sc m < suc n
+    → ((k : Machine) → Ties sc k → work_left sc k < n → Ends sc (rest (Some k)) (Some k))
     → Ends sc (rest (happens sc m move)) (happens sc m move)
 then_ends sc m move n rest s some few rec = by_move (happens sc m move) refl some
   where
     by_move : (o : Option Machine) → happens sc m move ≡ o → is_some o ≡ true → Ends sc (rest o) o
     by_move None e h = cc
     by_move (Some k) e h = rec k (happens_stands sc m k move s e)
-        (let a : left sc k + 1 ≤ left sc m = move_lowers sc m k move s e in omega arith)
+        (let a : work_left sc k + 1 ≤ work_left sc m = move_lowers sc m k move s e in omega arith)
 
-turn_ends : (sc : Scenario) (wants : ℕ → Bool) (n : ℕ) (m : Machine) → IsLimited sc → Stands sc m → left sc m < n
+turn_ends : (sc : Scenario) (wants : ℕ → Bool) (n : ℕ) (m : Machine) → IsLimited sc → Ties sc m → work_left sc m < n
     → Ends sc (in_turn n wants sc (Some m)) (Some m)
 unfolding in_turn
 turn_ends sc wants zero m limited s few = absurd (omega arith)
@@ -46,7 +46,7 @@ turn_ends sc wants (suc n) m limited s few =
     move : Move
     move = move_of wants n (turn_task sc m (lowest_open m (numbers (length sc.flags))))
 
-seed_ends : (sc : Scenario) (wants : ℕ → Bool) (n seed : ℕ) (m : Machine) → Stands sc m → left sc m < n
+seed_ends : (sc : Scenario) (wants : ℕ → Bool) (n seed : ℕ) (m : Machine) → Ties sc m → work_left sc m < n
     → Ends sc (by_seed n seed wants sc (Some m)) (Some m)
 unfolding by_seed
 seed_ends sc wants zero seed m s few = absurd (omega arith)
@@ -66,10 +66,10 @@ seed_ends sc wants (suc n) seed m s few =
 
 -- from the start
 pub turn_ends_from_start : (sc : Scenario) (wants : ℕ → Bool) (n : ℕ) (m : Machine) → IsLimited sc
-    → left sc (start sc) < n → run_from_start sc (in_turn n wants sc (Some (start sc))) ≡ Some m → has_ended sc m
+    → work_left sc (start sc) < n → run_from_start sc (in_turn n wants sc (Some (start sc))) ≡ Some m → has_ended sc m
     ≡ true
 turn_ends_from_start sc wants n m limited few e = turn_ends sc wants n (start sc) limited (start_stands sc) few m e
 
-pub seed_ends_from_start : (sc : Scenario) (wants : ℕ → Bool) (n seed : ℕ) (m : Machine) → left sc (start sc) < n
+pub seed_ends_from_start : (sc : Scenario) (wants : ℕ → Bool) (n seed : ℕ) (m : Machine) → work_left sc (start sc) < n
     → run_from_start sc (by_seed n seed wants sc (Some (start sc))) ≡ Some m → has_ended sc m ≡ true
 seed_ends_from_start sc wants n seed m few e = seed_ends sc wants n seed (start sc) (start_stands sc) few m e

@@ -13,7 +13,7 @@ use Rattle.vch_machine.specs.Events.{phase_event, is_at_rest, all_at_rest, numbe
 use Rattle.vch_machine.specs.Next.{next_kind, task_next}
 use Rattle.vch_machine.specs.Schedules.{Move, happens, run, run_from_start, lowest_open, first_waiting, turn_task, move_of, has_ended, in_turn, drawn, picked, seed_after, by_seed}
 use Rattle.vch_legal.specs.Facts.{bit}
-use Rattle.vch_legal.specs.Tie.{is_answering, Stands}
+use Rattle.vch_legal.specs.Tie.{is_answering, Ties}
 use Rattle.vch_legal.proofs.Choices.{cases_bool}
 use Rattle.vch_legal.proofs.AtRest.{task_of}
 use Rattle.vch_legal.proofs.PhaseCounts.{of_task, lines_with_phase}
@@ -43,7 +43,7 @@ not_below : (a b : ℕ) → b ≤ a → nat_lt a b ≡ false
 not_below a b h = grind arith
 
 -- a task whose line waits has a next event: a Begin, or one of its frame
-pub waiting_next : (sc : Scenario) (m : Machine) (t : ℕ) → Stands sc m → is_task sc t ≡ true
+pub waiting_next : (sc : Scenario) (m : Machine) (t : ℕ) → Ties sc m → is_task sc t ≡ true
     → first_waiting sc m [] (now sc m) ≡ Some t → is_some (next_kind sc m t) ≡ true
 waiting_next sc m t s task e = by_frame (tasked m t).frame refl
   where
@@ -68,7 +68,7 @@ rests : (sc : Scenario) (m : Machine) (t : ℕ) → is_some (tasked m t).frame �
 rests sc m t e h = rw (e, h) refl
 
 -- where no frame is and no line waits, each task is at rest
-pub resting : (sc : Scenario) (m : Machine) (t : ℕ) → Stands sc m → is_task sc t ≡ true → is_some (tasked m t).frame
+pub resting : (sc : Scenario) (m : Machine) (t : ℕ) → Ties sc m → is_task sc t ≡ true → is_some (tasked m t).frame
     ≡ false → first_waiting sc m [] (now sc m) ≡ None → is_at_rest sc (phases_in m.past) t (tasked m t) ≡ true
 resting sc m t s task none e = rests sc m t none (not_below _ _ fewer)
   where
@@ -92,7 +92,7 @@ resting sc m t s task none e = rests sc m t none (not_below _ _ fewer)
         (λ zero. let z : of_task t (now sc m) ≤ 0 = at_most _ _ zero in omega arith)
 
 -- a task without a next event is at rest
-pub none_next_rests : (sc : Scenario) (m : Machine) (t : ℕ) → Stands sc m → is_task sc t ≡ true
+pub none_next_rests : (sc : Scenario) (m : Machine) (t : ℕ) → Ties sc m → is_task sc t ≡ true
     → is_some (next_kind sc m t) ≡ false → is_at_rest sc (phases_in m.past) t (tasked m t) ≡ true
 none_next_rests sc m t s task e = by_frame (tasked m t).frame refl e
   where
@@ -122,7 +122,7 @@ all_rest sc m (t ∷ ts) h = both _ _ h.0 (all_rest sc m ts h.1)
     both a b e g = grind arith
 
 -- where no task is ready, each is at rest
-pub none_ready : (sc : Scenario) (m : Machine) → Stands sc m → (ts : List ℕ)
+pub none_ready : (sc : Scenario) (m : Machine) → Ties sc m → (ts : List ℕ)
     → AllByRecursion (λ t. is_task sc t ≡ true) ts
     → ready sc m ts ≡ [] → AllByRecursion (λ t. is_at_rest sc (phases_in m.past) t (tasked m t) ≡ true) ts
 none_ready sc m s [] h e = tt
@@ -145,7 +145,7 @@ phase_some sc m e over = rw (e, more (nat_lt (phases_in m.past) (length sc.phase
 -- in turn
 
 -- a move in turn can happen
-pub turn_some : (sc : Scenario) (wants : ℕ → Bool) (n : ℕ) (m : Machine) → IsLimited sc → Stands sc m → has_ended sc m
+pub turn_some : (sc : Scenario) (wants : ℕ → Bool) (n : ℕ) (m : Machine) → IsLimited sc → Ties sc m → has_ended sc m
     ≡ false
     → is_some (happens sc m (move_of wants n (turn_task sc m (lowest_open m (numbers (length sc.flags)))))) ≡ true
 turn_some sc wants n m limited s over = by_open (lowest_open m (numbers (length sc.flags))) refl
@@ -174,7 +174,7 @@ turn_some sc wants n m limited s over = by_open (lowest_open m (numbers (length 
 abbrev Runs : Scenario → List Move → Option Machine → Type 0
 Runs sc moves o = is_some (run sc moves o) ≡ true
 
-pub turn_runs : (sc : Scenario) (wants : ℕ → Bool) (n : ℕ) (m : Machine) → IsLimited sc → Stands sc m
+pub turn_runs : (sc : Scenario) (wants : ℕ → Bool) (n : ℕ) (m : Machine) → IsLimited sc → Ties sc m
     → Runs sc (in_turn n wants sc (Some m)) (Some m)
 unfolding in_turn
 turn_runs sc wants zero m limited s = refl
@@ -188,7 +188,7 @@ turn_runs sc wants (suc n) m limited s =
     move = move_of wants n (turn_task sc m (lowest_open m (numbers (length sc.flags))))
 
     by_move : (o : Option Machine) → happens sc m move ≡ o → is_some o ≡ true
-        → ((k : Machine) → Stands sc k → Runs sc (in_turn n wants sc (Some k)) (Some k))
+        → ((k : Machine) → Ties sc k → Runs sc (in_turn n wants sc (Some k)) (Some k))
         → Runs sc (in_turn n wants sc o) o
     by_move None e h rec = cc
     by_move (Some k) e h rec = rec k (happens_stands sc m k move s e)
@@ -213,7 +213,7 @@ all_at P [] i h l = absurd (omega arith)
 all_at P (x ∷ xs) zero h l = h.0
 all_at P (x ∷ xs) (suc i) h l = all_at P xs i h.1 (omega arith)
 
-pub seed_some : (sc : Scenario) (wants : ℕ → Bool) (n s : ℕ) (m : Machine) → Stands sc m → has_ended sc m ≡ false
+pub seed_some : (sc : Scenario) (wants : ℕ → Bool) (n s : ℕ) (m : Machine) → Ties sc m → has_ended sc m ≡ false
     → (ts : List ℕ) → ready sc m (numbers (length sc.flags)) ≡ ts → AllByRecursion (IsReady sc m) ts
     → is_some (happens sc m (move_of wants n (picked ts s))) ≡ true
 seed_some sc wants n s m stands over [] e h = phase_some sc m
@@ -224,7 +224,7 @@ seed_some sc wants n s m stands over (t ∷ ts) e h =
     (drawn s % length (t ∷ ts)) h (mod-lt (drawn s) (omega arith)) in
     event_some sc (wants n) (get_or (t ∷ ts) (drawn s % length (t ∷ ts)) 0) m stands r.task r.next
 
-pub seed_runs : (sc : Scenario) (wants : ℕ → Bool) (n seed : ℕ) (m : Machine) → Stands sc m
+pub seed_runs : (sc : Scenario) (wants : ℕ → Bool) (n seed : ℕ) (m : Machine) → Ties sc m
     → Runs sc (by_seed n seed wants sc (Some m)) (Some m)
 unfolding by_seed
 seed_runs sc wants zero seed m s = refl
@@ -243,7 +243,7 @@ seed_runs sc wants (suc n) seed m s =
         (seed_after (ready sc m (numbers (length sc.flags))) seed))
 
     by_move : (o : Option Machine) → happens sc m move ≡ o → is_some o ≡ true
-        → ((k : Machine) → Stands sc k → Runs sc (by_seed n next wants sc (Some k)) (Some k))
+        → ((k : Machine) → Ties sc k → Runs sc (by_seed n next wants sc (Some k)) (Some k))
         → Runs sc (by_seed n next wants sc o) o
     by_move None e h rec = cc
     by_move (Some k) e h rec = rec k (happens_stands sc m k move s e)

@@ -10,7 +10,7 @@ use Rattle.vch_machine.specs.Next.{task_next}
 use Rattle.vch_machine.specs.Events.{event, event_of}
 use Rattle.vch_machine.proofs.CallerLemmas.{leaves_of}
 use Rattle.vch_legal.specs.Facts.{Fits, bit}
-use Rattle.vch_legal.specs.Tie.{IsForming, is_answering, IsOpen, TaskStands, Stands}
+use Rattle.vch_legal.specs.Tie.{IsForming, is_answering, IsOpen, TaskStands, Ties}
 use Rattle.vch_legal.proofs.Choices.{cases_bool, number_eq}
 use Rattle.vch_legal.proofs.TaskItems.{none_at}
 use Rattle.vch_legal.proofs.PhaseLines.{all_lines}
@@ -66,7 +66,7 @@ nothing_left sc want m t e h = of_task (is_task sc t) (tasked m t).frame e
     of_task true (Some f) g = cc
 
 -- after the last phase nothing happens
-ended_event : (sc : Scenario) (want : Bool) (m n : Machine) (t : ℕ) → Stands sc m → is_task sc t ≡ true
+ended_event : (sc : Scenario) (want : Bool) (m n : Machine) (t : ℕ) → Ties sc m → is_task sc t ≡ true
     → nat_lt (phases_in m.past) (length sc.phases) ≡ false → event sc want m t ≡ Some n → ⊥
 ended_event sc want m n t s task over e =
     let f : (tasked m t).frame ≡ None = no_frame (tasked m t).frame
@@ -93,8 +93,8 @@ ended_event sc want m n t s task over e =
     not_below a b h = grind arith
 
 -- all stands after the event
-pub stands_after : (sc : Scenario) (want : Bool) (t : ℕ) (m n : Machine) → Stands sc m → is_task sc t ≡ true
-    → event sc want m t ≡ Some n → Fits sc n → Step sc t m n → Stands sc n
+pub stands_after : (sc : Scenario) (want : Bool) (t : ℕ) (m n : Machine) → Ties sc m → is_task sc t ≡ true
+    → event sc want m t ≡ Some n → Fits sc n → Step sc t m n → Ties sc n
 stands_after sc want t m n s task e fits step = record {
   fits = fits;
   same_store = follows_store sc t m n step.follows s.same_store;

@@ -13,7 +13,7 @@ use Rattle.vch_base.specs.declared.limits.TheConstants.{CHAIN_TASKS}
 use Rattle.vch_base.specs.declared.value.Value.{Value}
 use Rattle.vch_base.specs.declared.value.Value.TheVariants as values
 use Rattle.vch_base.specs.declared.flags.Flags.{Flags}
-use Rattle.vch_base.specs.Managers.{sent, received, mapped, bare, stored, own_answer, flags_in}
+use Rattle.vch_base.specs.Managers.{preprocessed, received, mapped, bare, stored, own_answer, flags_in}
 use Rattle.vch_recipe.specs.Recipes.{First, One, first_of}
 use Rattle.vch_recipe.specs.declared.recipe.Recipe.{Recipe}
 use Rattle.vch_model.specs.declared.call.Call.{Call}
@@ -40,7 +40,7 @@ both : (a b : Bool) → a ≡ true → b ≡ true → (a && b) ≡ true
 both a b x y = grind arith
 
 sent_good : (sc : Scenario) (k : Key) (s : ℕ) (x : Value) → is_task sc s ≡ true → ValueFits sc k x
-    → ValueFits sc k (sent s x)
+    → ValueFits sc k (preprocessed s x)
 sent_good sc k s (values.User bytes) task h = h
 sent_good sc k s (values.Chain list) task h = h
 sent_good sc k s (values.Task t) task h = h
@@ -145,7 +145,7 @@ own_good sc keys.Bank tasks by command previous content task h =
     (bare_good sc keys.Bank content _ (mapped_good sc keys.Bank (received (flags_in tasks by).receiver by) previous
     (λ y g. received_good sc keys.Bank (flags_in tasks by).receiver by y task g) h))
     (answer_if sc keys.Bank (command == commands.SEND_PREPROCESS) _ _
-    (bare_good sc keys.Bank content _ (mapped_good sc keys.Bank (sent by) previous
+    (bare_good sc keys.Bank content _ (mapped_good sc keys.Bank (preprocessed by) previous
     (λ y g. sent_good sc keys.Bank by y task g) h)) tt))
 
 pub answer_good : (sc : Scenario) (k : Key) (t command : ℕ) (previous : Option Value) (content : List ℕ)
@@ -198,7 +198,7 @@ by_good : (sc : Scenario) (m : Machine) (t : ℕ) (f : Frame) (v : Handles) (cal
 by_good sc m t f v (calls.Create bytes) task fits = first_good sc.version sc m.live (tasked m t).names t f.keys v
     (first_of (drop f.at_byte bytes)) task fits
 by_good sc m t f v (calls.Send to moving name id) task fits =
-    transfer_good sc m.live (sent t) f.keys v (λ k y h. sent_good sc k t y task h) fits
+    transfer_good sc m.live (preprocessed t) f.keys v (λ k y h. sent_good sc k t y task h) fits
 by_good sc m t f v calls.Recv task fits = transfer_good sc m.live (received_value sc t) f.keys v
     (λ k y h. received_good sc k (flags_of sc t).receiver t y task h) fits
 by_good sc m t f v (calls.GiveUp name) task fits = tt

@@ -17,7 +17,7 @@ use Rattle.vch_model.specs.Eval.{is_core_command, is_plain_command}
 use Rattle.vch_machine.specs.State.{Handles, Place, same_place, Named, Frame, Machine, tasked, has_place, option_has, is_handle, frame_holds, frame_expects, frame_claims}
 use Rattle.vch_machine.specs.Frames.{closed, with_frame, refuse}
 use Rattle.vch_machine.specs.Naming.{item, places, option_places, handles_of, same_handle}
-use Rattle.vch_machine.specs.Working.{copies, removes, changed, changed_at, changed_each, changed_keys, copied, worked, worked_with, work_first, Worked, work_done}
+use Rattle.vch_machine.specs.Working.{copies, removes, changed, changed_at, changed_each, changed_keys, copied, worked, worked_with, work_first, WorkDone, work_done}
 use Rattle.vch_legal.specs.Facts.{spot}
 use Rattle.vch_legal.proofs.Choices.{and_right, cases_bool}
 use Rattle.vch_legal.proofs.Places.{same_key, closed_holds, closed_expects, closed_claims}
@@ -87,10 +87,10 @@ swap_holds k g x v h lets n new =
     (lets_hold lets (at_key g h)) n new)
 
 -- what a map and the handles that left it hold
-abbrev pub worked_holds : Worked → Place → Bool
+abbrev pub worked_holds : WorkDone → Place → Bool
 worked_holds w p = has_place w.forming p || lets_hold w.left p
 
-pub changed_holds : (k : Key) (x : Option (Option ℕ)) (w : Worked) (p : Place) (n : Bool)
+pub changed_holds : (k : Key) (x : Option (Option ℕ)) (w : WorkDone) (p : Place) (n : Bool)
     → ((y : Option ℕ) → x ≡ Some y → ((number_of k == number_of p.key) && is_handle y p.handle) ≡ true → n ≡ true)
     → (worked_holds (changed k x w) p || n) ≡ (worked_holds w p || n)
 changed_holds k None w p n new = refl
@@ -172,7 +172,7 @@ named_holds (n ∷ names) name v p e h =
     or_true a = grind arith
 
 -- what a result holds, if it is one
-abbrev HoldsAs : Place → Bool → Worked → Result Worked ℤ → Type 0
+abbrev HoldsAs : Place → Bool → WorkDone → Result WorkDone ℤ → Type 0
 HoldsAs p n w (Ok x) = (worked_holds x p || n) ≡ (worked_holds w p || n)
 HoldsAs p n w (Err code) = Unit {0}
 
@@ -181,23 +181,23 @@ abbrev Known : Place → Bool → (Key → Option (Option ℕ)) → Type 0
 Known p n f = (k : Key) (y : Option ℕ) → f k ≡ Some y → ((number_of k == number_of p.key) && is_handle y p.handle)
     ≡ true → n ≡ true
 
-changed_at_holds : (f : Key → Option (Option ℕ)) (k : Option Key) (w : Worked) (p : Place) (n : Bool) → Known p n f
+changed_at_holds : (f : Key → Option (Option ℕ)) (k : Option Key) (w : WorkDone) (p : Place) (n : Bool) → Known p n f
     → HoldsAs p n w (changed_at f k w)
 changed_at_holds f None w p n known = tt
 changed_at_holds f (Some k) w p n known = changed_holds k (f k) w p n (known k)
 
-if_holds : (p : Place) (n : Bool) (w : Worked) (b : Bool) (x y : Result Worked ℤ) → HoldsAs p n w x → HoldsAs p n w y
+if_holds : (p : Place) (n : Bool) (w : WorkDone) (b : Bool) (x y : Result WorkDone ℤ) → HoldsAs p n w x → HoldsAs p n w y
     → HoldsAs p n w (if b then x else y)
 if_holds p n w true x y g h = g
 if_holds p n w false x y g h = h
 
-changed_each_holds : (f : Key → Option (Option ℕ)) (ks : List Key) (w : Worked) (p : Place) (n : Bool) → Known p n f
+changed_each_holds : (f : Key → Option (Option ℕ)) (ks : List Key) (w : WorkDone) (p : Place) (n : Bool) → Known p n f
     → (worked_holds (changed_each f ks w) p || n) ≡ (worked_holds w p || n)
 changed_each_holds f [] w p n known = refl
 changed_each_holds f (k ∷ ks) w p n known = changed_each_holds f ks (changed k (f k) w) p n known
     ∙ changed_holds k (f k) w p n (known k)
 
-changed_keys_holds : (version : ℕ) (f : Key → Option (Option ℕ)) (key : ℕ) (w : Worked) (p : Place) (n : Bool)
+changed_keys_holds : (version : ℕ) (f : Key → Option (Option ℕ)) (key : ℕ) (w : WorkDone) (p : Place) (n : Bool)
     → Known p n f → HoldsAs p n w (changed_keys version f key w)
 changed_keys_holds version f key w p n known =
     if_holds p n w (key == ALL_KEYS) _ _ (changed_each_holds f (managed version) w p n known)
@@ -224,13 +224,13 @@ copies_known v map p n held k y e h =
     (sym (same_key_handle k p.key v p.handle) ∙ subst (λ z. ((number_of k == number_of p.key) && is_handle z p.handle)
     ≡ true) (sym i) h))
 
-copied_holds : (version : ℕ) (previous : Option Handles) (key : ℕ) (w : Worked) (p : Place) (n : Bool)
+copied_holds : (version : ℕ) (previous : Option Handles) (key : ℕ) (w : WorkDone) (p : Place) (n : Bool)
     → (option_has previous p ≡ true → n ≡ true) → HoldsAs p n w (copied version previous key w)
 copied_holds version None key w p n held = refl
 copied_holds version (Some v) key w p n held = changed_keys_holds version (copies (Some v) w.forming) key w p n
     (copies_known v w.forming p n held)
 
-worked_as : (version : ℕ) (r : Recipe) (previous : Option Handles) (w : Worked) (p : Place) (n : Bool)
+worked_as : (version : ℕ) (r : Recipe) (previous : Option Handles) (w : WorkDone) (p : Place) (n : Bool)
     → (option_has previous p ≡ true → n ≡ true) → HoldsAs p n w (worked version r previous w)
 worked_as version r previous w p n held =
     if_holds p n w (is_core_command r.command) _ _ tt
@@ -241,7 +241,7 @@ worked_as version r previous w p n held =
     (changed_keys_holds version (removes previous w.forming) r.key w p n (removes_known previous w.forming p n)))))
     tt)
 
-with_as : (version : ℕ) (r : Recipe) (previous : Option Handles) (w : Worked) (p : Place) (n : Bool)
+with_as : (version : ℕ) (r : Recipe) (previous : Option Handles) (w : WorkDone) (p : Place) (n : Bool)
     → (option_has previous p ≡ true → n ≡ true) → HoldsAs p n w (worked_with version r previous w)
 with_as version r None w p n held = tt
 with_as version r (Some v) w p n held = worked_as version r (Some v) w p n held
@@ -274,7 +274,7 @@ join_lets g a x y n e = grind arith
 
 -- Work changes no spot
 pub work_spot : (m : Machine) (t : ℕ) (f : Frame) (version : ℕ) (v : Handles) (call : Call) (size : ℕ) (first : First)
-    (r : Result Worked ℤ) (p : Place) → (tasked m t).frame ≡ Some f
+    (r : Result WorkDone ℤ) (p : Place) → (tasked m t).frame ≡ Some f
     → f.forming ≡ Some v → r ≡ work_first version (tasked m t).names first v
     → spot (work_done m t f call size r) p ≡ spot m p
 work_spot m t f version v call size first (Err code) p e forming eq = refuse_spot m t f call code p e
@@ -292,6 +292,6 @@ work_spot m t f version v call size first (Ok w) p e forming eq =
   where
     held : ((has_place w.forming p || lets_hold w.left p) || kept_named m t p) ≡
         ((has_place v p || false) || kept_named m t p)
-    held = subst (λ (x : Result Worked ℤ). HoldsAs p (kept_named m t p) (record { forming = v; left = [] }) x) (sym eq)
+    held = subst (λ (x : Result WorkDone ℤ). HoldsAs p (kept_named m t p) (record { forming = v; left = [] }) x) (sym eq)
         (first_as version (tasked m t).names first v p (kept_named m t p)
         (λ h. or_three (names_hold m t p) (queue_holds m t p) (others_hold m t p) h))

@@ -14,7 +14,7 @@ use Rattle.vch_model.specs.Eval.{eval}
 use Rattle.vch_model.specs.Legal.{asks}
 use Rattle.vch_machine.specs.State.{Handles, Frame, Machine, tasked, valued, member_of}
 use Rattle.vch_machine.specs.Next.{known_name, first_next, call_next}
-use Rattle.vch_machine.specs.Working.{Worked, work_first, work_done, do_work, size_of}
+use Rattle.vch_machine.specs.Working.{WorkDone, work_first, work_done, do_work, size_of}
 use Rattle.vch_legal.specs.Facts.{Fits}
 use Rattle.vch_legal.specs.Tie.{KeysFit, FormsCreate}
 use Rattle.vch_legal.proofs.HeldLive.{forming_live, names_live}
@@ -49,7 +49,7 @@ pub unanswered_open : {a : Bool} → a ≡ false → (b : Bool) → (not a || b)
 unanswered_open e b = rw e refl
 
 work_result : (sc : Scenario) (t : ℕ) (m : Machine) (f : Frame) (v : Handles) (bytes : List ℕ) (r : Recipe)
-    (rest : List ℕ) (x : Result Worked ℤ) → Calling sc t m f (calls.Create bytes) → f.forming ≡ Some v → f.receipt
+    (rest : List ℕ) (x : Result WorkDone ℤ) → Calling sc t m f (calls.Create bytes) → f.forming ≡ Some v → f.receipt
     ≡ None
     → FormsCreate sc.version (seen_names m.live (tasked m t).names) t bytes f.at_byte [] (valued m.live v) → f.keys ≡ []
     → first_of (drop f.at_byte bytes) ≡ One r rest → asks sc.version (seen_names m.live (tasked m t).names) r ≡ false

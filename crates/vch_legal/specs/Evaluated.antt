@@ -4,7 +4,7 @@ use Rattle.vch_machine.specs.State.{Handles, Place, Frame, Machine, valued, valu
 use Rattle.vch_model.specs.After.{store_of}
 use Rattle.vch_base.specs.declared.value.Value.{Value}
 use Rattle.vch_base.specs.declared.key.Key.{Key}
-use Rattle.vch_base.specs.Managers.{sent}
+use Rattle.vch_base.specs.Managers.{preprocessed}
 use Rattle.vch_model.specs.declared.call.Call.{Call}
 use Rattle.vch_model.specs.declared.call.Call.TheVariants as calls
 use Rattle.vch_model.specs.declared.lists.Scenario.{Scenario}
@@ -18,7 +18,7 @@ use Rattle.vch_legal.specs.Tie.{IsEvaluated, WasTransferred, first_in, AsksAt, s
 abbrev pub WasEvaluated : Scenario → Member → ℕ → Call → ℕ → List Key → Voucher → Type 0
 WasEvaluated sc x t (calls.Create bytes) place keys map = IsEvaluated sc.version (voucher_of x.names) t bytes place keys map
 WasEvaluated sc x t (calls.Send to moving name id) place keys map =
-    (v : Voucher) × (voucher_of x.names name ≡ Some v) × WasTransferred (sent t) sent_keys v keys map
+    (v : Voucher) × (voucher_of x.names name ≡ Some v) × WasTransferred (preprocessed t) sent_keys v keys map
 WasEvaluated sc x t calls.Recv place keys map =
     (v : Voucher) × (first_in x.queue ≡ Some v) × WasTransferred (received_value sc t) received_keys v keys map
 WasEvaluated sc x t call place keys map = ⊥

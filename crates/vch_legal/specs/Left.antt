@@ -86,8 +86,8 @@ tasks_left sc t [] = 0
 tasks_left sc t (x ∷ xs) = task_left sc t x + tasks_left sc (t + 1) xs
 
 -- and the phases that have not ended
-abbrev pub left : Scenario → Machine → ℕ
-left sc m = tasks_left sc 1 m.tasks + (length sc.phases - phases_in m.past)
+abbrev pub work_left : Scenario → Machine → ℕ
+work_left sc m = tasks_left sc 1 m.tasks + (length sc.phases - phases_in m.past)
 
 -- a call has at most so much left at the start
 abbrev pub largest_call : ℕ

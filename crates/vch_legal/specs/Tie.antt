@@ -10,7 +10,7 @@ use Rattle.vch_base.specs.declared.limits.TheConstants.{ARRAY_BYTES}
 use Rattle.vch_base.specs.Keys.{number_of, managed, key_among, key_of}
 use Rattle.vch_base.specs.Keyed.{of_key, with_key}
 use Rattle.vch_base.specs.declared.value.Value.{Value}
-use Rattle.vch_base.specs.Managers.{sent, mapped}
+use Rattle.vch_base.specs.Managers.{preprocessed, mapped}
 use Rattle.vch_recipe.specs.Recipes.{First, One, first_of}
 use Rattle.vch_model.specs.declared.call.Call.{Call}
 use Rattle.vch_model.specs.declared.call.Call.TheVariants as calls
@@ -144,8 +144,8 @@ pub record FormsSend (sc : Scenario) (names : ℕ → Option Voucher) (t to name
   pub is_named : (name == 0) ≡ false
   pub voucher : Voucher
   pub known : names name ≡ Some voucher
-  pub made : transfer_keys (sent t) keys map ≡ before t voucher
-  pub evaluated : WasTransferred (sent t) sent_keys voucher keys map
+  pub made : transfer_keys (preprocessed t) keys map ≡ before t voucher
+  pub evaluated : WasTransferred (preprocessed t) sent_keys voucher keys map
   pub asked : is_empty keys ≡ false → is_some voucher.bank ≡ true
   pub keys_managed : AllAmong (managed sc.version) keys
 
@@ -224,7 +224,7 @@ AsksKey g ks map k y = (head_key ks ≡ Some k) × (mapped g (of_key k map) ≡ 
 abbrev pub AsksAt : Scenario → Member → ℕ → Call → ℕ → List Key → Voucher → Key → Value → Type 0
 AsksAt sc x t (calls.Create bytes) place ks map k y =
     AsksFirst sc.version (voucher_of x.names) t ks map (first_of (drop place bytes)) k y
-AsksAt sc x t (calls.Send to moving name id) place ks map k y = AsksKey (sent t) ks map k y
+AsksAt sc x t (calls.Send to moving name id) place ks map k y = AsksKey (preprocessed t) ks map k y
 AsksAt sc x t calls.Recv place ks map k y = AsksKey (received_value sc t) ks map k y
 AsksAt sc x t call place ks map k y = ⊥
 
@@ -285,7 +285,7 @@ abbrev pub any_frame : List Tasked → Bool
 any_frame xs = list_any (λ (x : Tasked). is_some x.frame) xs
 
 -- all that every move of a run keeps
-pub record Stands (sc : Scenario) (m : Machine) : Type 0 where
+pub record Ties (sc : Scenario) (m : Machine) : Type 0 where
   pub fits : Fits sc m
   pub same_store : seen m ≡ store_of sc m.past
   pub tasks : (t : ℕ) → is_task sc t ≡ true → TaskStands sc m.past m.live t (tasked m t)

@@ -31,9 +31,9 @@ ghost use Rattle.vch_legal.specs.Apart.{Facts, Beside};
 ghost use Rattle.vch_legal.specs.Evaluated.{IsSoFar};
 ghost use Rattle.vch_legal.specs.Facts.{Fits};
 ghost use Rattle.vch_legal.specs.GivenBack.{EndsInExits, AllGivenBack};
-ghost use Rattle.vch_legal.specs.Tie.{Stands};
+ghost use Rattle.vch_legal.specs.Tie.{Ties};
 ghost use Rattle.vch_legal.specs.Added.{with_added};
-ghost use Rattle.vch_legal.specs.Left.{left, largest_call};
+ghost use Rattle.vch_legal.specs.Left.{work_left, largest_call};
 ghost use Rattle.vch_legal.specs.Reports.{IsByteEntry, IsReportable};
 
 /// A law: the state at the start meets the facts.
@@ -134,30 +134,30 @@ pub fn charges_are_kept_in_every_run()
 /// reference was taken, and the references are bounded by the records and the messages.
 pub fn every_move_lowers_what_is_left()
     ensures { (sc : Scenario) (moves : List Move) (move : Move) (m n : Machine)
-        → run_from_start sc moves ≡ Some m → happens sc m move ≡ Some n → left sc n + 1 ≤ left sc m }
+        → run_from_start sc moves ≡ Some m → happens sc m move ≡ Some n → work_left sc n + 1 ≤ work_left sc m }
 {}
 
 /// A law: a run has no more moves than what was left at the start.
 pub fn every_run_is_bounded()
     ensures { (sc : Scenario) (moves : List Move) (n : Machine)
-        → run_from_start sc moves ≡ Some n → length moves + left sc n ≤ left sc (start sc) }
+        → run_from_start sc moves ≡ Some n → length moves + work_left sc n ≤ work_left sc (start sc) }
 {}
 
 /// A law: what is left at the start is bounded by the number of calls and of phases.
 #[tactic(auto, using(crate::proofs::LineSums::start_few))]
 pub fn start_is_bounded()
-    ensures { (sc : Scenario) → left sc (start sc) ≤ largest_call * line_count sc.phases + length sc.phases }
+    ensures { (sc : Scenario) → work_left sc (start sc) ≤ largest_call * line_count sc.phases + length sc.phases }
 {}
 
 /// A law: with a bound above what is left at the start, the schedule in turn ends with the last phase.
 pub fn in_turn_ends()
-    ensures { (sc : Scenario) (wants : ℕ → Bool) (bound : ℕ) (n : Machine) → IsLimited sc → left sc (start sc) < bound
+    ensures { (sc : Scenario) (wants : ℕ → Bool) (bound : ℕ) (n : Machine) → IsLimited sc → work_left sc (start sc) < bound
         → run_from_start sc (in_turn bound wants sc (Some (start sc))) ≡ Some n → has_ended sc n ≡ true }
 {}
 
 /// A law: with such a bound, the schedule by seed ends with the last phase too.
 pub fn by_seed_ends()
-    ensures { (sc : Scenario) (wants : ℕ → Bool) (bound seed : ℕ) (n : Machine) → left sc (start sc) < bound
+    ensures { (sc : Scenario) (wants : ℕ → Bool) (bound seed : ℕ) (n : Machine) → work_left sc (start sc) < bound
         → run_from_start sc (by_seed bound seed wants sc (Some (start sc))) ≡ Some n → has_ended sc n ≡ true }
 {}
 
@@ -166,24 +166,24 @@ pub fn by_seed_ends()
 /// phase can happen where all tasks are at rest and a phase is left.
 #[tactic(auto, using(crate::proofs::Happening::next_happens, crate::proofs::Happening::phase_ends, crate::proofs::Happening::some_move))]
 pub fn next_events_can_happen()
-    ensures event_happens { (sc : Scenario) (want : Bool) (t : ℕ) (m : Machine) (kind : Kind) → Stands sc m
+    ensures event_happens { (sc : Scenario) (want : Bool) (t : ℕ) (m : Machine) (kind : Kind) → Ties sc m
         → is_task sc t ≡ true → next_kind sc m t ≡ Some kind → is_some (event sc want m t) ≡ true }
     ensures phase_ends { (sc : Scenario) (m : Machine) → all_at_rest sc m ≡ true → has_ended sc m ≡ false
         → is_some (phase_event sc m) ≡ true }
-    ensures some_move { (sc : Scenario) (m : Machine) → Stands sc m → has_ended sc m ≡ false
+    ensures some_move { (sc : Scenario) (m : Machine) → Ties sc m → has_ended sc m ≡ false
         → (move : Move) × (is_some (happens sc m move) ≡ true) }
 {}
 
 /// A law: from a state that stands, an event of any task leaves one that stands, and so does an end of a phase.
 pub fn event_stands()
-    ensures of_task { (sc : Scenario) (want : Bool) (t : ℕ) (m n : Machine) → Stands sc m
-        → event sc want m t ≡ Some n → Stands sc n }
-    ensures of_phase { (sc : Scenario) (m n : Machine) → Stands sc m → phase_event sc m ≡ Some n → Stands sc n }
+    ensures of_task { (sc : Scenario) (want : Bool) (t : ℕ) (m n : Machine) → Ties sc m
+        → event sc want m t ≡ Some n → Ties sc n }
+    ensures of_phase { (sc : Scenario) (m n : Machine) → Ties sc m → phase_event sc m ≡ Some n → Ties sc n }
 {}
 
 /// A law: every state of every run stands.
 pub fn run_stands()
-    ensures { (sc : Scenario) (moves : List Move) (n : Machine) → run_from_start sc moves ≡ Some n → Stands sc n }
+    ensures { (sc : Scenario) (moves : List Move) (n : Machine) → run_from_start sc moves ≡ Some n → Ties sc n }
 {}
 
 /// A law: the run in turn in which memory never runs out is one: a scenario has no two histories of it.

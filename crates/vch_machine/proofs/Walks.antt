@@ -30,7 +30,7 @@ use Rattle.vch_machine.specs.Making.{one_refer, asked_by, minted, race_claim, ba
 use Rattle.vch_machine.specs.Naming.{name_of, lowest, with_name, option_places}
 use Rattle.vch_machine.specs.Next.{nth_call, next_kind}
 use Rattle.vch_machine.specs.Placing.{place_create, moved_name, place_send, place_recv, do_place}
-use Rattle.vch_machine.specs.Working.{work_done, do_work, do_gone, do_lost, do_left, exit_queue, exit_names, do_exit, Worked}
+use Rattle.vch_machine.specs.Working.{work_done, do_work, do_gone, do_lost, do_left, exit_queue, exit_names, do_exit, WorkDone}
 
 -- what decides of a claim which event is next: only its answer
 abbrev pub still_claim : Claim → Claim
@@ -107,7 +107,7 @@ module _ (t : ℕ) (R : Machine → Machine → Type 0) (w : PastWalk t R) where
   may_either m n o true x y = x
   may_either m n o false x y = y
 
-  work : (m : Machine) (f : Frame) (call : Call) (size : ℕ) (r : Result Worked ℤ) → R m (work_done m t f call size r)
+  work : (m : Machine) (f : Frame) (call : Call) (size : ℕ) (r : Result WorkDone ℤ) → R m (work_done m t f call size r)
   work m f call size (Ok x) = framed m _
   work m f call size (Err code) = refuses m f call code
 

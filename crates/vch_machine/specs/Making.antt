@@ -5,7 +5,7 @@ use Rattle.vch_base.specs.declared.codes.TheConstants.{KERN_RESOURCE_SHORTAGE}
 use Rattle.vch_base.specs.declared.key.TheConstants.{ALL_KEYS}
 use Rattle.vch_base.specs.Keyed.{of_key, with_key}
 use Rattle.vch_base.specs.Keys.{number_of, managed, key_of}
-use Rattle.vch_base.specs.Managers.{sent, mapped}
+use Rattle.vch_base.specs.Managers.{preprocessed, mapped}
 use Rattle.vch_base.specs.declared.key.Key.{Key}
 use Rattle.vch_base.specs.declared.value.Value.{Value}
 use Rattle.vch_recipe.specs.Recipes.{First, One, first_of}
@@ -75,7 +75,7 @@ asked_transfer live g (k ∷ ks) map = Some (record { key = k; reply = Ok (mappe
 abbrev pub asked_by : Scenario → Machine → ℕ → Frame → Handles → Call → Option Asked
 asked_by sc m t f v (calls.Create bytes) = asked_first sc.version m.live (tasked m t).names t f.keys v
     (first_of (drop f.at_byte bytes))
-asked_by sc m t f v (calls.Send to moving name id) = asked_transfer m.live (sent t) f.keys v
+asked_by sc m t f v (calls.Send to moving name id) = asked_transfer m.live (preprocessed t) f.keys v
 asked_by sc m t f v calls.Recv = asked_transfer m.live (received_value sc t) f.keys v
 asked_by sc m t f v call = None
 

@@ -19,7 +19,7 @@ use Rattle.vch_model.specs.declared.entry.Reply.TheVariants as replies
 use Rattle.vch_model.specs.declared.call.Call.TheVariants as calls
 
 -- one record without a manager: the map, and the handles that leave it
-pub record Worked : Type 0 where
+pub record WorkDone : Type 0 where
   pub forming : Handles
   pub left : List Place
 
@@ -34,32 +34,32 @@ removes None map k = Some None
 removes (Some v) map k = if same_handle (of_key k v) (of_key k map) then Some None else None
 
 -- a key is given a handle or none; the one that was there leaves the map, also where it is put there again
-abbrev pub changed : Key → Option (Option ℕ) → Worked → Worked
+abbrev pub changed : Key → Option (Option ℕ) → WorkDone → WorkDone
 changed k None w = w
 changed k (Some x) w = record { forming = with_key k x w.forming; left = w.left ++ item k (of_key k w.forming) }
 
 -- a change at a key that may have no manager
-abbrev pub changed_at : (Key → Option (Option ℕ)) → Option Key → Worked → Result Worked ℤ
+abbrev pub changed_at : (Key → Option (Option ℕ)) → Option Key → WorkDone → Result WorkDone ℤ
 changed_at f None w = Err KERN_INVALID_ARGUMENT
 changed_at f (Some k) w = Ok (changed k (f k) w)
 
 -- a change at each key of a list, one after the other
-abbrev pub changed_each : (Key → Option (Option ℕ)) → List Key → Worked → Worked
+abbrev pub changed_each : (Key → Option (Option ℕ)) → List Key → WorkDone → WorkDone
 changed_each f [] w = w
 changed_each f (k ∷ keys) w = changed_each f keys (changed k (f k) w)
 
 -- a change at one managed key of the version, or at all of them in rising order
-abbrev pub changed_keys : ℕ → (Key → Option (Option ℕ)) → ℕ → Worked → Result Worked ℤ
+abbrev pub changed_keys : ℕ → (Key → Option (Option ℕ)) → ℕ → WorkDone → Result WorkDone ℤ
 changed_keys version f key w =
     if key == ALL_KEYS then Ok (changed_each f (managed version) w) else changed_at f (key_of version key) w
 
 -- COPY, which does nothing without a previous voucher
-abbrev pub copied : ℕ → Option Handles → ℕ → Worked → Result Worked ℤ
+abbrev pub copied : ℕ → Option Handles → ℕ → WorkDone → Result WorkDone ℤ
 copied version None key w = Ok w
 copied version (Some v) key w = changed_keys version (copies (Some v) w.forming) key w
 
 -- a record with its previous voucher, or a code
-abbrev pub worked : ℕ → Recipe → Option Handles → Worked → Result Worked ℤ
+abbrev pub worked : ℕ → Recipe → Option Handles → WorkDone → Result WorkDone ℤ
 worked version r previous w =
     if is_core_command r.command then Err KERN_NO_ACCESS
     else if is_plain_command r.command then (
@@ -70,12 +70,12 @@ worked version r previous w =
     else Err KERN_INVALID_ARGUMENT
 
 -- a record that names a previous voucher, which may not be there
-abbrev pub worked_with : ℕ → Recipe → Option Handles → Worked → Result Worked ℤ
+abbrev pub worked_with : ℕ → Recipe → Option Handles → WorkDone → Result WorkDone ℤ
 worked_with version r None w = Err KERN_INVALID_CAPABILITY
 worked_with version r (Some v) w = worked version r (Some v) w
 
 -- the first record of what is left of the bytes
-abbrev pub work_first : ℕ → List Named → First → Handles → Result Worked ℤ
+abbrev pub work_first : ℕ → List Named → First → Handles → Result WorkDone ℤ
 work_first version names (One r rest) map =
     if r.previous == 0 then worked version r None (record { forming = map; left = [] })
     else worked_with version r (handles_of names r.previous) (record { forming = map; left = [] })
@@ -84,7 +84,7 @@ work_first version names (First.HeaderCut left) map = Err KERN_INVALID_ARGUMENT
 work_first version names (First.ContentCut wanted left) map = Err KERN_INVALID_ARGUMENT
 
 -- a refusal answers the call; else the place moves on
-abbrev pub work_done : Machine → ℕ → Frame → Call → ℕ → Result Worked ℤ → Machine
+abbrev pub work_done : Machine → ℕ → Frame → Call → ℕ → Result WorkDone ℤ → Machine
 work_done m t f call size (Err code) = refuse m t f call code
 work_done m t f call size (Ok w) =
     with_frame m t (Some (record f { forming = Some w.forming; at_byte = f.at_byte + size; lets = f.lets ++ w.left }))

@@ -2,7 +2,7 @@
 use Rattle.std.specs.Prelude.{◌≡◌, true, false, [], ◌∷◌, Some, None, Ok}
 use Rattle.vch_base.specs.declared.key.Key.TheVariants as keys
 use Rattle.vch_base.specs.declared.value.Value.TheVariants as values
-use Rattle.vch_base.specs.Managers.{sent, received}
+use Rattle.vch_base.specs.Managers.{preprocessed, received}
 use Rattle.vch_model.specs.Eval.{answer_to}
 use Rattle.vch_model.specs.Replies.{may_charge}
 
@@ -16,9 +16,9 @@ pub record AreManaged : Type 0 where
   pub default : may_charge 1 (Some values.Default) ≡ false
   pub nothing : may_charge 1 None ≡ false
   -- sent by task 2
-  pub sent_default : sent 2 values.Default ≡ values.Task 2
-  pub sent_task : sent 2 (values.Task 1) ≡ values.Task 1
-  pub sent_account : sent 2 (values.Account 1 3) ≡ values.Task 1
+  pub sent_default : preprocessed 2 values.Default ≡ values.Task 2
+  pub sent_task : preprocessed 2 (values.Task 1) ≡ values.Task 1
+  pub sent_account : preprocessed 2 (values.Account 1 3) ≡ values.Task 1
   -- received by task 2
   pub received_default : received true 2 values.Default ≡ values.Default
   pub received_own : received true 2 (values.Task 2) ≡ values.Task 2

@@ -3,7 +3,7 @@ use Rattle.std.proofs.Common.{◌≡◌, ℕ, zero, suc, ◌+◌, ◌≤◌, Som
 use Rattle.std.specs.Prelude.{slice_get}
 use Rattle.vch_recipe.specs.Recipes.{One, first_of}
 use Rattle.vch_recipe.specs.declared.recipe.Recipe.{Recipe}
-use Rattle.vch_model.specs.UserOnly.{AsksUserOnly, Begins, asks_other}
+use Rattle.vch_model.specs.UserOnly.{AsksUserOnly, StartsWithRecords, asks_other}
 use Rattle.vch_legal.proofs.CallerLemmas.{record_rest, record_place, asks_behind}
 
 pub asks_more : (b : List ℕ) (r : Recipe) (rest : List ℕ) → first_of b ≡ One r rest → asks_other r ≡ false → AsksUserOnly rest → AsksUserOnly b
@@ -13,7 +13,7 @@ asks_more b r rest e none u [] mid begins s more first = let z : r ≡ s = of_on
     of_one h = cc
 asks_more b r rest e none u (q ∷ rs) mid begins s more first =
     let z : begins.0 ≡ rest = of_one (sym begins.1 ∙ e) in
-    u rs mid (subst (λ m. Begins m rs mid) z begins.2) s more first
+    u rs mid (subst (λ m. StartsWithRecords m rs mid) z begins.2) s more first
   where
     of_one : {r s : Recipe} {xs ys : List ℕ} → One r xs ≡ One s ys → xs ≡ ys
     of_one h = cc

@@ -71,12 +71,12 @@ abbrev pub IsListing : List ℕ → List ℕ → Type 0
 IsListing input text = (records : List Recipe) × IsArray input records × (text ≡ recipe_text records)
 
 -- what a command writes where the input is in its grammar
-abbrev pub Answers : Command → List ℕ → List ℕ → Type 0
-Answers commands.Check input text = IsCanonical input text
-Answers commands.Play input text = IsReport None input text
-Answers (commands.PlaySeed seed) input text = IsReport (Some seed) input text
-Answers commands.Recipe input text = IsListing input text
-Answers commands.Header input text = IsTranslation input text
+abbrev pub IsOutput : Command → List ℕ → List ℕ → Type 0
+IsOutput commands.Check input text = IsCanonical input text
+IsOutput commands.Play input text = IsReport None input text
+IsOutput (commands.PlaySeed seed) input text = IsReport (Some seed) input text
+IsOutput commands.Recipe input text = IsListing input text
+IsOutput commands.Header input text = IsTranslation input text
 
 -- the line tells the first fault of the scenario's text
 abbrev pub IsScenarioFault : List ℕ → List ℕ → Type 0
@@ -110,7 +110,7 @@ Refuses commands.Header input line = IsMessageFault input line
 
 -- what a command comes to
 abbrev pub Comes : Command → List ℕ → Outcome → Type 0
-Comes command input (outcomes.Answered text) = Answers command input text.items
+Comes command input (outcomes.Answered text) = IsOutput command input text.items
 Comes command input (outcomes.Refused line) = Refuses command input line.items
 
 -- the input is in the command's grammar
@@ -124,7 +124,7 @@ IsIn commands.Header input = (text : List ℕ) × IsTranslation input text
 -- the answer to the input was written, whole
 abbrev pub WritesAnswer : Option Command → List ℕ → Option (List ℕ) → Option (List ℕ) → Type 0
 WritesAnswer None input old new = ⊥
-WritesAnswer (Some command) input old new = (text : List ℕ) × Answers command input text × (length input ≤ limit) × Extends old new text
+WritesAnswer (Some command) input old new = (text : List ℕ) × IsOutput command input text × (length input ≤ limit) × Extends old new text
 
 -- the line of a refusal was written, whole
 abbrev pub WritesRefusal : Option Command → List ℕ → Option (List ℕ) → Option (List ℕ) → Type 0
@@ -135,7 +135,7 @@ WritesRefusal (Some command) input old new = (line : List ℕ) × Refuses comman
 abbrev pub WritesPart : Option Command → List ℕ → Option (List ℕ) → Option (List ℕ) → Type 0
 WritesPart None input old new = ⊥
 WritesPart (Some command) input old new =
-    (text : List ℕ) × (Answers command input text ⊎ Refuses command input text) × (length input ≤ limit) × WritesPrefix old new text
+    (text : List ℕ) × (IsOutput command input text ⊎ Refuses command input text) × (length input ≤ limit) × WritesPrefix old new text
 
 -- the words are a form, and the input is short and in its grammar
 abbrev pub IsGood : Option Command → Option (List ℕ) → Type 0

@@ -5,7 +5,7 @@ use Rattle.vch_model.specs.declared.entry.Entry.TheVariants as entries
 use Rattle.vch_model.specs.declared.total.Total.{Total}
 use Rattle.vch_model.specs.Text.{entry_text, total_text, counts_text}
 use Rattle.vch_text.specs.Words.{is_word, front_of, word_at, end_of}
-use Rattle.vch_model.specs.Grammar.{Begins}
+use Rattle.vch_model.specs.Grammar.{StartsWithLine}
 use Rattle.std.specs.Fmt.{decimal, digits}
 use Rattle.vch_text.proofs.CallerLemmas.{front_whole, Told, told_bind, told_test, word_true, word_told, end_told}
 use Rattle.vch_report.specs.declared.item.Item.{Item}
@@ -113,7 +113,7 @@ title_told : (rest : List ℕ) → Told (λ i. IsLine (codes "report" ++ rest) i
 unfolding title_of
 title_told rest =
     let S : Item → Type 0 = λ i. IsLine (codes "report" ++ rest) i in
-    told_bind (λ x. Begins rest x.0 x.1) S (word_at rest) _ (word_told rest)
+    told_bind (λ x. StartsWithLine rest x.0 x.1) S (word_at rest) _ (word_told rest)
     (λ w b. told_bind (λ u. w.1 ≡ []) S (end_of w.1) _ (end_told w.1)
     (λ u n. told_bind (λ v. IsVersionWord w.0 v) S (version_of w.0) _ (version_told w.0)
     (λ v h. record {

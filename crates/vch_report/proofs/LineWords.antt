@@ -3,7 +3,7 @@ use Rattle.std.proofs.Common.{◌≡◌, ℕ, ◌^◌, ◌<◌, ◌≤◌, true,
 use Rattle.std.specs.Fmt.{decimal}
 use Rattle.hex.specs.Hex.{IsBytes}
 use Rattle.vch_model.specs.Text.{hex_of}
-use Rattle.vch_model.specs.Grammar.{IsHex, Begins}
+use Rattle.vch_model.specs.Grammar.{IsHex, StartsWithLine}
 use Rattle.vch_text.specs.Words.{is_word, word_at, end_of}
 use Rattle.vch_text.specs.Digits.{bytes_of}
 use Rattle.vch_text.proofs.CallerLemmas.{front_sep, front_none, Told, told_bind, told_test, word_true, word_same, Follows, word_told, word_again, end_told, end_again, hex_told, hex_again, IsPlain, plain_word, above, above_plain, decimal_plain, hex_plain, hex_spelled, IsLow, low_append}
@@ -26,7 +26,7 @@ no_more = front_none 32
 pub a_space : (more : List ℕ) → Follows (32 ∷ more)
 a_space more = front_sep 32 more
 
-pub begins : (w more : List ℕ) → IsPlain w → Begins (said w more) w more
+pub begins : (w more : List ℕ) → IsPlain w → StartsWithLine (said w more) w more
 begins w more h = record { parts = refl; word = plain_word w h }
 
 pub said_again : (w more : List ℕ) → IsPlain w → Follows more → word_at (said w more) ≡ Some (w, more)
@@ -52,7 +52,7 @@ pub record BelowAt (top : ℕ) (rest : List ℕ) (n : ℕ) (more : List ℕ) : T
 pub below_at_told : (top : ℕ) (rest : List ℕ) → top ≤ 10 ^ 64 → Told (λ x. BelowAt top rest x.0 x.1) (below_at top rest)
 unfolding below_at
 below_at_told top rest few =
-    told_bind (λ x. Begins rest x.0 x.1) (λ x. BelowAt top rest x.0 x.1) (word_at rest) _ (word_told rest)
+    told_bind (λ x. StartsWithLine rest x.0 x.1) (λ x. BelowAt top rest x.0 x.1) (word_at rest) _ (word_told rest)
     (λ w b. told_bind (λ n. IsBelow top w.0 n)
     (λ x. BelowAt top rest x.0 x.1) (below top w.0) _ (below_told top w.0 few)
     (λ n h. record { parts = b.parts ∙ ap (λ l. said l w.1) h.word; small = h.small }))
@@ -70,7 +70,7 @@ pub record OrdinalAt (rest : List ℕ) (n : ℕ) (more : List ℕ) : Type 0 wher
 pub ordinal_at_told : (rest : List ℕ) → Told (λ x. OrdinalAt rest x.0 x.1) (ordinal_at rest)
 unfolding ordinal_at
 ordinal_at_told rest =
-    told_bind (λ x. Begins rest x.0 x.1) (λ x. OrdinalAt rest x.0 x.1) (word_at rest) _ (word_told rest)
+    told_bind (λ x. StartsWithLine rest x.0 x.1) (λ x. OrdinalAt rest x.0 x.1) (word_at rest) _ (word_told rest)
     (λ w b. told_bind (λ n. IsOrdinal w.0 n) (λ x. OrdinalAt rest x.0 x.1) (ordinal w.0) _ (ordinal_told w.0)
     (λ n h. record { parts = b.parts ∙ ap (λ l. said l w.1) h.word; number = h.number }))
 
@@ -84,7 +84,7 @@ ordinal_at_again n more h f =
 pub after_told : (text rest : List ℕ) → Told (λ more. rest ≡ said text more) (after text rest)
 unfolding after
 after_told text rest =
-    told_bind (λ x. Begins rest x.0 x.1) (λ more. rest ≡ said text more) (word_at rest) _ (word_told rest)
+    told_bind (λ x. StartsWithLine rest x.0 x.1) (λ more. rest ≡ said text more) (word_at rest) _ (word_told rest)
     (λ w b. told_test (λ more. rest ≡ said text more) (is_word w.0 text) (Some w.1) None (λ t. b.parts
     ∙ ap (λ l. said l w.1) (word_true w.0 text t)) (λ f. tt))
 
@@ -98,7 +98,7 @@ pub record BytesAt (rest bytes : List ℕ) : Type 0 where
   pub parts : rest ≡ 32 ∷ hex_of bytes
   pub bytes_are : IsBytes bytes
 
-bytes_parts : (rest w more bytes : List ℕ) → Begins rest w more → more ≡ [] → (w ≡ hex_of bytes) × IsBytes bytes
+bytes_parts : (rest w more bytes : List ℕ) → StartsWithLine rest w more → more ≡ [] → (w ≡ hex_of bytes) × IsBytes bytes
     → BytesAt rest bytes
 bytes_parts rest w more bytes b e h = record {
   parts = b.parts ∙ ap (λ l. said w l) e
@@ -109,7 +109,7 @@ bytes_parts rest w more bytes b e h = record {
 pub bytes_at_told : (rest : List ℕ) → Told (λ bytes. BytesAt rest bytes) (bytes_at rest)
 unfolding bytes_at
 bytes_at_told rest =
-    told_bind (λ x. Begins rest x.0 x.1) (λ bytes. BytesAt rest bytes) (word_at rest) _ (word_told rest)
+    told_bind (λ x. StartsWithLine rest x.0 x.1) (λ bytes. BytesAt rest bytes) (word_at rest) _ (word_told rest)
     (λ w b. told_bind (λ u. w.1 ≡ []) (λ bytes. BytesAt rest bytes) (end_of w.1) _ (end_told w.1)
     (λ u e. told_bind (λ bytes. IsHex w.0 bytes) (λ bytes. BytesAt rest bytes) (bytes_of w.0) _ (hex_told w.0)
     (λ bytes h. told_test (λ bytes. BytesAt rest bytes) (is_lower w.0) (Some bytes) None

@@ -15,7 +15,7 @@ use Rattle.vch_model.specs.declared.entry.Entry.TheVariants as entries
 use Rattle.vch_model.specs.Text.{hex_of, value_text, entry_text}
 use Rattle.vch_text.specs.Words.{is_word, word_at, end_of}
 use Rattle.vch_text.proofs.CallerLemmas.{Told, told_bind, told_test, word_true, word_told, end_told, end_again, above_plain, hex_plain, IsLow}
-use Rattle.vch_model.specs.Grammar.{Begins}
+use Rattle.vch_model.specs.Grammar.{StartsWithLine}
 use Rattle.vch_report.specs.Numerals.{ordinal_at, after, bytes_at}
 use Rattle.vch_report.specs.Values.{chain_of, user_of, list_of, task_of, account_of, bank_of, made_of}
 use Rattle.vch_model.specs.WellFormed.{IsNumber, IsRanged, IsEntry}
@@ -65,7 +65,7 @@ unfolding list_of
 list_told rest more k =
     told_bind (λ r. more ≡ said (codes "list") r)
     (λ e. MadeAt rest e) (after (codes "list") more) _ (after_told (codes "list") more)
-    (λ r a. told_bind (λ x. Begins r x.0 x.1) (λ e. MadeAt rest e) (word_at r) _ (word_told r)
+    (λ r a. told_bind (λ x. StartsWithLine r x.0 x.1) (λ e. MadeAt rest e) (word_at r) _ (word_told r)
     (λ w b. told_bind (λ u. w.1 ≡ []) (λ e. MadeAt rest e) (end_of w.1) _ (end_told w.1)
     (λ u n. told_bind (λ ts. ChainAt w.0 ts) (λ e. MadeAt rest e) (chain_of w.0) _ (chain_told w.0)
     (λ ts c. record {
@@ -105,7 +105,7 @@ account_told rest more tail k a =
 bank_told : (rest more : List ℕ) → rest ≡ said (codes "3") more → Told (λ e. MadeAt rest e) (bank_of more)
 unfolding bank_of
 bank_told rest more k =
-    told_bind (λ x. Begins more x.0 x.1) (λ e. MadeAt rest e) (word_at more) _ (word_told more)
+    told_bind (λ x. StartsWithLine more x.0 x.1) (λ e. MadeAt rest e) (word_at more) _ (word_told more)
     (λ w b. told_test (λ e. MadeAt rest e) (is_word w.0 (codes "task")) (task_of w.1) _
     (λ t. task_told rest more w.1 k (b.parts ∙ ap (λ l. said l w.1) (word_true w.0 (codes "task") t)))
     (λ f. told_test (λ e. MadeAt rest e) (is_word w.0 (codes "account")) (account_of w.1) None
@@ -115,7 +115,7 @@ bank_told rest more k =
 pub made_told : (rest : List ℕ) → Told (λ e. MadeAt rest e) (made_of rest)
 unfolding made_of
 made_told rest =
-    told_bind (λ x. Begins rest x.0 x.1) (λ e. MadeAt rest e) (word_at rest) _ (word_told rest)
+    told_bind (λ x. StartsWithLine rest x.0 x.1) (λ e. MadeAt rest e) (word_at rest) _ (word_told rest)
     (λ w b. told_test (λ e. MadeAt rest e) (is_word w.0 (codes "7")) (user_of 7 w.1) _
     (λ t. user_told 7 rest w.1 (omega arith) (λ bytes. tt) (b.parts ∙ ap (λ l. said l w.1) (word_true w.0 (codes "7") t)))
     (λ f. told_test (λ e. MadeAt rest e) (is_word w.0 (codes "8")) (user_of 8 w.1) _

@@ -8,7 +8,7 @@ use Rattle.vch_model.specs.declared.entry.Entry.TheVariants as entries
 use Rattle.vch_model.specs.declared.entry.Reply.{Reply}
 use Rattle.vch_model.specs.declared.entry.Reply.TheVariants as replies
 use Rattle.vch_model.specs.Text.{hex_of, word_text, reply_text, entry_text}
-use Rattle.vch_model.specs.Grammar.{Begins}
+use Rattle.vch_model.specs.Grammar.{StartsWithLine}
 use Rattle.vch_text.specs.Words.{is_word, word_at, end_of}
 use Rattle.vch_text.proofs.CallerLemmas.{Told, told_bind, told_test, told_map, word_true, word_told, end_told}
 use Rattle.vch_report.specs.Numerals.{below_at, ordinal_at, bytes_at}
@@ -72,7 +72,7 @@ mark_line false b = refl
 recipe_told : (rest : List ℕ) → Told (λ r. Answered words.Recipes rest r) (recipe_of rest)
 unfolding recipe_of
 recipe_told rest =
-    told_bind (λ x. Begins rest x.0 x.1) (λ r. Answered words.Recipes rest r) (word_at rest) _ (word_told rest)
+    told_bind (λ x. StartsWithLine rest x.0 x.1) (λ r. Answered words.Recipes rest r) (word_at rest) _ (word_told rest)
     (λ w b. told_bind (λ m. w.0 ≡ mark_text m) (λ r. Answered words.Recipes rest r) (mark_of w.0) _ (mark_told w.0)
     (λ m e. told_bind (λ x. BytesAt w.1 x) (λ r. Answered words.Recipes rest r) (bytes_at w.1) _ (bytes_at_told w.1)
     (λ x h. record {
@@ -154,7 +154,7 @@ pub record Replied (v : Word) (rest : List ℕ) (r : Reply) : Type 0 where
   pub good : IsReply v r
   pub text : rest ≡ 32 ∷ reply_text r
 
-zero_told : (v : Word) (rest w more : List ℕ) → Begins rest w more → w ≡ codes "0"
+zero_told : (v : Word) (rest w more : List ℕ) → StartsWithLine rest w more → w ≡ codes "0"
     → Told (λ r. Replied v rest r) (answer_of v more)
 zero_told v rest w more b e =
     told_map (λ r. Answered v more r) (λ r. Replied v rest r) (answer_of v more)
@@ -164,7 +164,7 @@ zero_told v rest w more b e =
           ∙ ap (λ l. 32 ∷ l) a.text;
     }) (answer_told v more)
 
-refused_told : (v : Word) (rest w more : List ℕ) → Begins rest w more → Told (λ r. Replied v rest r) (refused_of w more)
+refused_told : (v : Word) (rest w more : List ℕ) → StartsWithLine rest w more → Told (λ r. Replied v rest r) (refused_of w more)
 unfolding refused_of
 refused_told v rest w more b =
     told_bind (λ u. more ≡ []) (λ r. Replied v rest r) (end_of more) _ (end_told more)
@@ -174,7 +174,7 @@ refused_told v rest w more b =
 reply_told : (v : Word) (rest : List ℕ) → Told (λ r. Replied v rest r) (reply_of v rest)
 unfolding reply_of
 reply_told v rest =
-    told_bind (λ x. Begins rest x.0 x.1) (λ r. Replied v rest r) (word_at rest) _ (word_told rest)
+    told_bind (λ x. StartsWithLine rest x.0 x.1) (λ r. Replied v rest r) (word_at rest) _ (word_told rest)
     (λ w b. told_test (λ r. Replied v rest r) (is_word w.0 (codes "0")) (answer_of v w.1) (refused_of w.0 w.1)
     (λ t. zero_told v rest w.0 w.1 b (word_true w.0 (codes "0") t)) (λ f. refused_told v rest w.0 w.1 b))
 
@@ -195,7 +195,7 @@ unfolding called_of
 called_told rest =
     told_bind (λ x. OrdinalAt rest x.0 x.1) (λ x. CalledAt rest x) (ordinal_at rest) _ (ordinal_at_told rest)
     (λ t h. told_bind (λ x. OrdinalAt t.1 x.0 x.1) (λ x. CalledAt rest x) (ordinal_at t.1) _ (ordinal_at_told t.1)
-    (λ n g. told_bind (λ x. Begins n.1 x.0 x.1) (λ x. CalledAt rest x) (word_at n.1) _ (word_told n.1)
+    (λ n g. told_bind (λ x. StartsWithLine n.1 x.0 x.1) (λ x. CalledAt rest x) (word_at n.1) _ (word_told n.1)
     (λ w b. told_bind (λ v. w.0 ≡ word_text v) (λ x. CalledAt rest x) (verb_of w.0) _ (verb_told w.0)
     (λ v e. record {
       task = h.number;

@@ -12,7 +12,7 @@ use Rattle.vch_scenario.specs.declared.fault.Why.TheVariants.{Form, Range}
 use Rattle.vch_scenario.specs.Reading.{◌>>=◌, formed}
 use Rattle.vch_text.specs.Words.{is_word, word_at}
 use Rattle.vch_text.proofs.CallerLemmas.{word_true, both, spelled_follows}
-use Rattle.vch_model.specs.Grammar.{top, Begins, IsSmall, behind_word}
+use Rattle.vch_model.specs.Grammar.{top, StartsWithLine, IsSmall, behind_word}
 use Rattle.vch_scenario.specs.Calls.{fit, verb_of, call_by, call_of}
 use Rattle.vch_model.specs.Words.{word_of}
 use Rattle.vch_model.specs.WellFormed.{IsWordOf}
@@ -108,17 +108,17 @@ NoCallAt version rest why = (why ≡ Form) ⊎ ((why ≡ Range) × (c : Call) ×
 abbrev pub IsCallAt : ℕ → List ℕ → Call → Type 0
 IsCallAt version rest c = IsCall rest c × IsCallOf version c × IsSmall c
 
-call_spelled : (rest w more : List ℕ) (v : Word) (c : Call) → Begins rest w more → w ≡ word_text v → word_of c ≡ v → IsBehind more c → IsCall rest c
+call_spelled : (rest w more : List ℕ) (v : Word) (c : Call) → StartsWithLine rest w more → w ≡ word_text v → word_of c ≡ v → IsBehind more c → IsCall rest c
 call_spelled rest w more v c b e s h = (w, more, b, e ∙ ap word_text (sym s), h)
 
 of_word : (version : ℕ) (v : Word) (c : Call) → word_of c ≡ v → IsWordOf version v → IsCallOf version c
 of_word version v c s i = word_call version c (subst (λ (x : Word). IsWordOf version x) (sym s) i)
 
-none_spelled : (version : ℕ) (rest w more : List ℕ) (v : Word) (why : Why) → Begins rest w more → IsVerb version w v → NoCall v more why → NoCallAt version rest why
+none_spelled : (version : ℕ) (rest w more : List ℕ) (v : Word) (why : Why) → StartsWithLine rest w more → IsVerb version w v → NoCall v more why → NoCallAt version rest why
 none_spelled version rest w more v why b e h =
     elim h [ inl p ↦ inl p | inr p ↦ inr (p.0, p.1, call_spelled rest w more v p.1 b e.0 p.2 p.3, of_word version v p.1 p.2 e.1, p.4) ]
 
-some_spelled : (version : ℕ) (rest w more : List ℕ) (v : Word) (c : Call) → Begins rest w more → IsVerb version w v → IsGood v more c → IsCallAt version rest c
+some_spelled : (version : ℕ) (rest w more : List ℕ) (v : Word) (c : Call) → StartsWithLine rest w more → IsVerb version w v → IsGood v more c → IsCallAt version rest c
 some_spelled version rest w more v c b e h = (call_spelled rest w more v c b e.0 h.0 h.1, of_word version v c h.0 e.1, h.2)
 
 pub told_change : {X : Type 0} (P Q : Why → Type 0) (R S : X → Type 0) (r : Result X Why) → ((e : Why) → P e → Q e) → ((x : X) → R x → S x) → Told P R r → Told Q S r
@@ -131,7 +131,7 @@ unfolding call_of
 call_told version rest =
     let Q : Why → Type 0 = NoCallAt version rest in
     let S : Call → Type 0 = IsCallAt version rest in
-    told_bind Q (λ x. Begins rest x.0 x.1) S (formed (word_at rest)) _ (word_told Q (inl refl) rest)
+    told_bind Q (λ x. StartsWithLine rest x.0 x.1) S (formed (word_at rest)) _ (word_told Q (inl refl) rest)
     (λ w b. told_bind Q (λ v. IsVerb version w.0 v) S (verb_of version w.0) _ (verb_told Q (inl refl) version w.0)
     (λ v e. told_change (NoCall v w.1) Q (IsGood v w.1) S (call_by v w.1) (λ why h. none_spelled version rest w.0 w.1 v why b e h) (λ c h. some_spelled version rest w.0 w.1 v c b e h) (by_told v w.1)))
 

@@ -13,7 +13,7 @@ use Rattle.vch_text.specs.Words.{is_word, word_at, end_of}
 use Rattle.vch_text.specs.Numbers.{number_at, one_of, two_of}
 use Rattle.vch_text.specs.Digits.{bytes_of}
 use Rattle.vch_text.proofs.CallerLemmas.{word_true, spelled_follows, NumberAt, OneRead, TwoRead}
-use Rattle.vch_model.specs.Grammar.{top, Text, Number, Begins, AreSpelled, call_pieces, IsSmall, IsHex, IsNumeral, behind_word}
+use Rattle.vch_model.specs.Grammar.{top, Text, Number, StartsWithLine, AreSpelled, call_pieces, IsSmall, IsHex, IsNumeral, behind_word}
 use Rattle.vch_scenario.specs.Calls.{fit, either_of, give_up_of, extract_of, recipes_of, send_of, extern_of, charge_of, bare_of, create_of}
 use Rattle.vch_model.specs.Words.{word_of}
 use Rattle.vch_scenario.proofs.Told.{Told, told_bind, told_test}
@@ -105,12 +105,12 @@ either_told Q f a b w =
     told_test Q (λ x. Picks x a b w) (is_word w a) (Ok true) (cond (is_word w b) (Ok false) (Err Form)) (λ t. word_true w a t)
     (λ n. told_test Q (λ x. Picks x a b w) (is_word w b) (Ok false) (Err Form) (λ t. word_true w b t) (λ m. f))
 
-send_spelled : (rest a0 a1 w0 w1 : List ℕ) (to name id : ℕ) (moving : Bool) → Begins rest a0 a1 → IsNumeral a0 to → Begins a1 w0 w1 → Picks moving (codes "move") (codes "copy") w0
+send_spelled : (rest a0 a1 w0 w1 : List ℕ) (to name id : ℕ) (moving : Bool) → StartsWithLine rest a0 a1 → IsNumeral a0 to → StartsWithLine a1 w0 w1 → Picks moving (codes "move") (codes "copy") w0
     → AreSpelled w1 (Number name ∷ Number id ∷ []) → IsBehind rest (calls.Send to moving name id)
 send_spelled rest a0 a1 w0 w1 to name id true b n c p s = (a0, a1, b, n, (w0, w1, c, p, s))
 send_spelled rest a0 a1 w0 w1 to name id false b n c p s = (a0, a1, b, n, (w0, w1, c, p, s))
 
-extern_spelled : (rest a0 a1 w0 w1 : List ℕ) (name n : ℕ) (adding : Bool) → Begins rest a0 a1 → IsNumeral a0 name → Begins a1 w0 w1 → Picks adding (codes "add") (codes "drop") w0
+extern_spelled : (rest a0 a1 w0 w1 : List ℕ) (name n : ℕ) (adding : Bool) → StartsWithLine rest a0 a1 → IsNumeral a0 name → StartsWithLine a1 w0 w1 → Picks adding (codes "add") (codes "drop") w0
     → AreSpelled w1 (Number n ∷ []) → IsBehind rest (calls.Extern name adding n)
 extern_spelled rest a0 a1 w0 w1 name n true b i c p s = (a0, a1, b, i, (w0, w1, c, p, s))
 extern_spelled rest a0 a1 w0 w1 name n false b i c p s = (a0, a1, b, i, (w0, w1, c, p, s))
@@ -121,7 +121,7 @@ send_told rest =
     let Q : Why → Type 0 = NoCall words.Send rest in
     let S : Call → Type 0 = IsGood words.Send rest in
     told_bind Q (λ x. NumberAt top rest x.0 x.1) S (formed (number_at top rest)) _ (number_at_told Q (form words.Send rest) rest)
-    (λ a h. told_bind Q (λ x. Begins a.1 x.0 x.1) S (formed (word_at a.1)) _ (word_told Q (form words.Send rest) a.1)
+    (λ a h. told_bind Q (λ x. StartsWithLine a.1 x.0 x.1) S (formed (word_at a.1)) _ (word_told Q (form words.Send rest) a.1)
     (λ w b. told_bind Q (λ x. Picks x (codes "move") (codes "copy") w.0) S (either_of (codes "move") (codes "copy") w.0) _ (either_told Q (form words.Send rest) (codes "move") (codes "copy") w.0)
     (λ moving p. told_bind Q (λ x. TwoRead top w.1 x.0 x.1) S (formed (two_of top w.1)) _ (two_told Q (form words.Send rest) w.1)
     (λ t g.
@@ -143,7 +143,7 @@ extern_told rest =
     let Q : Why → Type 0 = NoCall words.Extern rest in
     let S : Call → Type 0 = IsGood words.Extern rest in
     told_bind Q (λ x. NumberAt top rest x.0 x.1) S (formed (number_at top rest)) _ (number_at_told Q (form words.Extern rest) rest)
-    (λ a h. told_bind Q (λ x. Begins a.1 x.0 x.1) S (formed (word_at a.1)) _ (word_told Q (form words.Extern rest) a.1)
+    (λ a h. told_bind Q (λ x. StartsWithLine a.1 x.0 x.1) S (formed (word_at a.1)) _ (word_told Q (form words.Extern rest) a.1)
     (λ w b. told_bind Q (λ x. Picks x (codes "add") (codes "drop") w.0) S (either_of (codes "add") (codes "drop") w.0) _ (either_told Q (form words.Extern rest) (codes "add") (codes "drop") w.0)
     (λ adding p. told_bind Q (λ x. OneRead top w.1 x) S (formed (one_of top w.1)) _ (one_told Q (form words.Extern rest) w.1)
     (λ t g.
@@ -168,7 +168,7 @@ unfolding create_of
 create_told rest =
     let Q : Why → Type 0 = NoCall words.Create rest in
     let S : Call → Type 0 = IsGood words.Create rest in
-    told_bind Q (λ x. Begins rest x.0 x.1) S (formed (word_at rest)) _ (word_told Q (form words.Create rest) rest)
+    told_bind Q (λ x. StartsWithLine rest x.0 x.1) S (formed (word_at rest)) _ (word_told Q (form words.Create rest) rest)
     (λ w b. told_bind Q (λ u. w.1 ≡ []) S (formed (end_of w.1)) _ (end_told Q (form words.Create rest) w.1)
     (λ u e. told_bind Q (λ x. IsHex w.0 x) S (formed (bytes_of w.0)) _ (hex_told Q (form words.Create rest) w.0)
     (λ bytes h. (refl, (w.0, w.1, b, h, e), tt))))

@@ -4,7 +4,7 @@ use Rattle.vch_text.specs.Words.{word_at, end_of}
 use Rattle.vch_text.specs.Numbers.{number_of, number_at, one_of, two_of}
 use Rattle.vch_text.specs.Digits.{bytes_of}
 use Rattle.vch_text.proofs.CallerLemmas as texts
-use Rattle.vch_model.specs.Grammar.{top, Number, IsNumeral, IsHex, Begins, AreSpelled}
+use Rattle.vch_model.specs.Grammar.{top, Number, IsNumeral, IsHex, StartsWithLine, AreSpelled}
 use Rattle.vch_scenario.specs.declared.fault.Why.{Why}
 use Rattle.vch_scenario.specs.declared.fault.Why.TheVariants.{Form}
 use Rattle.vch_scenario.specs.Reading.{formed}
@@ -17,10 +17,10 @@ told_formed Q R None form h = form
 again : {X : Type 0} (r : Option X) (x : X) → r ≡ Some x → formed r ≡ Ok x
 again r x e = ap formed e
 
-pub word_told : (Q : Why → Type 0) → Q Form → (rest : List ℕ) → Told Q (λ x. Begins rest x.0 x.1) (formed (word_at rest))
-word_told Q form rest = told_formed Q (λ x. Begins rest x.0 x.1) (word_at rest) form (texts.word_told rest)
+pub word_told : (Q : Why → Type 0) → Q Form → (rest : List ℕ) → Told Q (λ x. StartsWithLine rest x.0 x.1) (formed (word_at rest))
+word_told Q form rest = told_formed Q (λ x. StartsWithLine rest x.0 x.1) (word_at rest) form (texts.word_told rest)
 
-pub word_again : (rest w more : List ℕ) → Begins rest w more → texts.Follows more → formed (word_at rest) ≡ Ok (w, more)
+pub word_again : (rest w more : List ℕ) → StartsWithLine rest w more → texts.Follows more → formed (word_at rest) ≡ Ok (w, more)
 word_again rest w more h f = again (word_at rest) (w, more) (texts.word_again rest w more h f)
 
 pub end_told : (Q : Why → Type 0) → Q Form → (rest : List ℕ) → Told Q (λ u. rest ≡ []) (formed (end_of rest))
@@ -38,7 +38,7 @@ number_again w n h = again (number_of top w) (min n top) (texts.number_again top
 pub number_at_told : (Q : Why → Type 0) → Q Form → (rest : List ℕ) → Told Q (λ x. texts.NumberAt top rest x.0 x.1) (formed (number_at top rest))
 number_at_told Q form rest = told_formed Q (λ x. texts.NumberAt top rest x.0 x.1) (number_at top rest) form (texts.number_at_told top rest)
 
-pub number_at_again : (rest w more : List ℕ) (n : ℕ) → Begins rest w more → IsNumeral w n → texts.Follows more → formed (number_at top rest) ≡ Ok (min n top, more)
+pub number_at_again : (rest w more : List ℕ) (n : ℕ) → StartsWithLine rest w more → IsNumeral w n → texts.Follows more → formed (number_at top rest) ≡ Ok (min n top, more)
 number_at_again rest w more n b h f = again (number_at top rest) (min n top, more) (texts.number_at_again top rest w more n b h f)
 
 pub one_told : (Q : Why → Type 0) → Q Form → (rest : List ℕ) → Told Q (λ k. texts.OneRead top rest k) (formed (one_of top rest))

@@ -7,7 +7,7 @@ use Rattle.vch_text.specs.Words.{is_word, front_of}
 use Rattle.vch_text.specs.Numbers.{one_of}
 use Rattle.vch_text.proofs.CallerLemmas.{front_whole, word_true, word_same, Follows, front_word, front_again, spelled_follows, OneRead}
 use Rattle.vch_scenario.specs.Reading.{formed}
-use Rattle.vch_model.specs.Grammar.{top, Piece, Text, Number, Begins, AreSpelled, IsLine, Title, Tasks, Phase, End}
+use Rattle.vch_model.specs.Grammar.{top, Piece, Text, Number, StartsWithLine, AreSpelled, IsLine, Title, Tasks, Phase, End}
 use Rattle.vch_scenario.specs.Calls.{word_is, up_to, tasks_of, version_of}
 use Rattle.vch_base.specs.declared.limits.TheConstants.{MOST_TASKS}
 use Rattle.std.specs.Fmt.{decimal, digits}
@@ -63,10 +63,10 @@ end_again_line line h = same_line line (codes "end") (last_again (32 ∷ line) (
 
 -- ---- the first word of a line
 
-pub line_begins : (line : List ℕ) → Begins (32 ∷ line) (front_of 32 line).0 (front_of 32 line).1
+pub line_begins : (line : List ℕ) → StartsWithLine (32 ∷ line) (front_of 32 line).0 (front_of 32 line).1
 line_begins line = record { parts = ap (λ l. 32 ∷ l) (sym (front_whole 32 line)); word = front_word line }
 
-pub line_front : (line w more : List ℕ) → Begins (32 ∷ line) w more → Follows more → front_of 32 line ≡ (w, more)
+pub line_front : (line w more : List ℕ) → StartsWithLine (32 ∷ line) w more → Follows more → front_of 32 line ≡ (w, more)
 line_front line w more b f = ap (front_of 32) (same_line line (w ++ more) b.parts) ∙ front_again w more b.word f
 
 pub is_told : (Q : Why → Type 0) → Q Form → (t w : List ℕ) → Told Q (λ u. w ≡ t) (word_is t w)

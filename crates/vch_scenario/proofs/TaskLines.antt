@@ -9,7 +9,7 @@ use Rattle.vch_text.specs.Numbers.{number_at, one_of}
 use Rattle.vch_text.proofs.CallerLemmas.{word_true, word_same, Follows, front_word, front_again, spelled_follows, OneRead, NumberAt}
 use Rattle.vch_text.proofs.CallerLemmas as texts
 use Rattle.vch_scenario.specs.Reading.{◌>>=◌, formed}
-use Rattle.vch_model.specs.Grammar.{top, Piece, Text, Number, Digits, Begins, AreSpelled, flag_pieces, queue_pieces, IsLine, Task}
+use Rattle.vch_model.specs.Grammar.{top, Piece, Text, Number, Digits, StartsWithLine, AreSpelled, flag_pieces, queue_pieces, IsLine, Task}
 use Rattle.vch_scenario.specs.Calls.{word_is, flag_by, flag_at, up_to, written_queue, queue_of, tail_of, limit_of, number_is, task_of}
 use Rattle.vch_scenario.specs.declared.task.TaskLine.{TaskLine}
 use Rattle.vch_scenario.specs.Faults.{limit_by}
@@ -30,11 +30,11 @@ tail_pieces f queue = flag_pieces f.donor (codes "donor") (flag_pieces f.receive
 abbrev chosen : Bool → List ℕ → List ℕ → Bool × List ℕ
 chosen b more rest = cond b (true, more) (false, rest)
 
-chosen_told : (text rest w more : List ℕ) (ps : List Piece) (b : Bool) → is_word w text ≡ b → Begins rest w more → AreSpelled (chosen b more rest).1 ps → AreSpelled rest (flag_pieces (chosen b more rest).0 text ps)
+chosen_told : (text rest w more : List ℕ) (ps : List Piece) (b : Bool) → is_word w text ≡ b → StartsWithLine rest w more → AreSpelled (chosen b more rest).1 ps → AreSpelled rest (flag_pieces (chosen b more rest).0 text ps)
 chosen_told text rest w more ps true e b h = (w, more, b, word_true w text e, h)
 chosen_told text rest w more ps false e b h = h
 
-flag_by_told : (text rest : List ℕ) (ps : List Piece) (r : Option (List ℕ × List ℕ)) → texts.Told (λ x. Begins rest x.0 x.1) r → AreSpelled (flag_by text rest r).1 ps
+flag_by_told : (text rest : List ℕ) (ps : List Piece) (r : Option (List ℕ × List ℕ)) → texts.Told (λ x. StartsWithLine rest x.0 x.1) r → AreSpelled (flag_by text rest r).1 ps
     → AreSpelled rest (flag_pieces (flag_by text rest r).0 text ps)
 flag_by_told text rest ps None b h = h
 flag_by_told text rest ps (Some w) b h = chosen_told text rest w.0 w.1 ps (is_word w.0 text) refl b h
@@ -68,7 +68,7 @@ written_told : (Q : Why → Type 0) → Q Form → (rest : List ℕ) → Told Q 
 unfolding written_queue
 written_told Q form rest =
     let S : ℕ → Type 0 = λ k. (q : ℕ) × AreSpelled rest (queue_pieces (Some q)) × (k ≡ min q top) in
-    told_bind Q (λ x. Begins rest x.0 x.1) S (formed (word_at rest)) _ (word_told Q form rest)
+    told_bind Q (λ x. StartsWithLine rest x.0 x.1) S (formed (word_at rest)) _ (word_told Q form rest)
     (λ w b. told_bind Q (λ u. w.0 ≡ codes "queue") S (word_is (codes "queue") w.0) _ (is_told Q form (codes "queue") w.0)
     (λ u e. told_bind Q (λ k. OneRead top w.1 k) S (formed (one_of top w.1)) _ (one_told Q form w.1)
     (λ k r. (r.n, (w.0, w.1, b, e, r.spelled), r.read))))

@@ -8,7 +8,7 @@ use Rattle.vch_base.specs.Managers.{live_at, count}
 use Rattle.vch_entry.specs.declared.table.Entry.{Entry}
 use Rattle.vch_table.specs.declared.indices.KeyedIndex.{KeyedIndex}
 use Rattle.vch_value.specs.Picture as picture
-use Rattle.vch_value.specs.Picture.{Picture, Claimed, Meets, IsClaimed, IsDead, IsTaken, IsKept, claims_at, flags_at, entry_of, default_of, with_claims}
+use Rattle.vch_value.specs.Picture.{Picture, Claimed, AgreesAt, IsClaimed, IsDead, IsTaken, IsKept, claims_at, flags_at, entry_of, default_of, with_claims}
 use Rattle.vch_value.proofs.CallerLemmas.{claims_here, only}
 use Rattle.vch_model.specs.declared.lists.Scenario.{Scenario}
 use Rattle.vch_machine.specs.State as machine
@@ -62,7 +62,7 @@ module _ (sc : Scenario) (k : Key) (c : Plain) (m : Machine) (t : ℕ) (positive
   abbrev h : ℕ
   h = y.place.handle
 
-  abbrev here : Meets (count h P.holders) (flags_at h P.receipts) (claims_at h P.claims) (live_at (of_key k c.keyed).kept.slots h) (entry_of (of_key k c.keyed).entries.slots h)
+  abbrev here : AgreesAt (count h P.holders) (flags_at h P.receipts) (claims_at h P.claims) (live_at (of_key k c.keyed).kept.slots h) (entry_of (of_key k c.keyed).entries.slots h)
   here = stands_now.at h
 
   claims_are : claims_at h P.claims ≡ claims_at h (claims_before k c m t) ++ own_claim ∷ claims_at h (claims_behind k c m t)
@@ -74,8 +74,8 @@ module _ (sc : Scenario) (k : Key) (c : Plain) (m : Machine) (t : ℕ) (positive
       (subst (IsClaimed (entry_of (of_key k c.keyed).entries.slots h)) claims_are here.claimed) in
       claims_are ∙ rw (o.0, o.1) refl
 
-  pub meets : Meets (count h P.holders) (flags_at h P.receipts) (own_claim ∷ []) (live_at (of_key k c.keyed).kept.slots h) (entry_of (of_key k c.keyed).entries.slots h)
-  meets = subst (λ cs. Meets (count h P.holders) (flags_at h P.receipts) cs (live_at (of_key k c.keyed).kept.slots h) (entry_of (of_key k c.keyed).entries.slots h)) alone here
+  pub meets : AgreesAt (count h P.holders) (flags_at h P.receipts) (own_claim ∷ []) (live_at (of_key k c.keyed).kept.slots h) (entry_of (of_key k c.keyed).entries.slots h)
+  meets = subst (λ cs. AgreesAt (count h P.holders) (flags_at h P.receipts) cs (live_at (of_key k c.keyed).kept.slots h) (entry_of (of_key k c.keyed).entries.slots h)) alone here
 
   -- the picture after: the claim is another, or none
   module _ (d : Plain) (n : Machine) (f2 : Option Frame) (g2 : Option machine.Frame) (x2 : Claiming) (y2 : Option machine.Claim)
@@ -95,11 +95,11 @@ live_of (Some a) n flags c e d i none P f = f a refl
 live_of None n flags c None d i none P f = absurd (cc)
 live_of None n flags c (Some e) d i none P f = absurd (cc)
 
-pub unasked_live : (n : ℕ) (flags : List Bool) (c : Claimed) (l : Option Live) (e : Option Entry) → Meets n flags (c ∷ []) l e → c.answered ≡ None → (P : Type 0) → ((a : Live) → l ≡ Some a → P) → P
+pub unasked_live : (n : ℕ) (flags : List Bool) (c : Claimed) (l : Option Live) (e : Option Entry) → AgreesAt n flags (c ∷ []) l e → c.answered ≡ None → (P : Type 0) → ((a : Live) → l ≡ Some a → P) → P
 unasked_live n flags c l e m none P f = live_of l n flags c e m.dead m.claimed none P f
 
 -- what is claimed is not Default
-pub not_default : (n : ℕ) (flags : List Bool) (c : Claimed) (l : Option Live) (e : Option Entry) → Meets n flags (c ∷ []) l e → default_of l ≡ false
+pub not_default : (n : ℕ) (flags : List Bool) (c : Claimed) (l : Option Live) (e : Option Entry) → AgreesAt n flags (c ∷ []) l e → default_of l ≡ false
 not_default n flags c l e m = by e m.kept m.claimed
   where
     by : (e : Option Entry) → IsKept e flags l → IsClaimed e (c ∷ []) → default_of l ≡ false

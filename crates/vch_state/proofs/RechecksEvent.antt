@@ -18,7 +18,7 @@ use Rattle.vch_table.specs.declared.table.Cell.{Cell}
 use Rattle.vch_value.specs.Flight as flight
 use Rattle.vch_value.specs.Flight.{Asked}
 use Rattle.vch_value.specs.Picture as picture
-use Rattle.vch_value.specs.Picture.{Picture, Claimed, Meets, with_claims, claims_at, flags_at, entry_of, again, takes_again}
+use Rattle.vch_value.specs.Picture.{Picture, Claimed, AgreesAt, with_claims, claims_at, flags_at, entry_of, again, takes_again}
 use Rattle.vch_value.specs.Calls.{IsAnswered, Rechecks, claim_again}
 use Rattle.vch_value.proofs.CallerLemmas.{entry_is, test_same}
 use Rattle.vch_model.specs.Lines.{is_task}
@@ -190,7 +190,7 @@ module _ (p : Parts) (t : ℕ) (f : Frame) (key : Key) (x : Asked) (task : is_ta
     alone : claims_at h P.claims ≡ claimed x.sync Y ∷ []
     alone = one.alone p.scenario keys.User (plain_of p) m t range.0 range.1 f.forming f.at f.key f.lets g.forming g.at_byte g.keys g.lets (Claiming.Answered keys.User x) Y own_is twin_is refl s
 
-    meets : Meets (count h P.holders) (flags_at h P.receipts) (claimed x.sync Y ∷ []) (live_at p.user.slots h) (entry_of p.user_entries.slots h)
+    meets : AgreesAt (count h P.holders) (flags_at h P.receipts) (claimed x.sync Y ∷ []) (live_at p.user.slots h) (entry_of p.user_entries.slots h)
     meets = one.meets p.scenario keys.User (plain_of p) m t range.0 range.1 f.forming f.at f.key f.lets g.forming g.at_byte g.keys g.lets (Claiming.Answered keys.User x) Y own_is twin_is refl s
 
     split : P.claims ≡ claims_before keys.User (plain_of p) m t ++ claimed x.sync Y ∷ claims_behind keys.User (plain_of p) m t

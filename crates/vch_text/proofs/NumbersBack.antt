@@ -6,7 +6,7 @@ use Rattle.std.proofs.lemmas.Bool.{cases_eq}
 use Rattle.vch_text.specs.Reading.{◌>>=◌}
 use Rattle.vch_text.specs.Words.{word_at, end_of}
 use Rattle.vch_text.specs.Numbers.{number_after, number_of, number_at, one_of, two_of}
-use Rattle.vch_model.specs.Grammar.{Number, IsDecimal, value_after, IsNumeral, Begins, AreSpelled}
+use Rattle.vch_model.specs.Grammar.{Number, IsDecimal, value_after, IsNumeral, StartsWithLine, AreSpelled}
 use Rattle.vch_text.proofs.Told.{Told, told_bind, told_test, told_map}
 use Rattle.vch_text.proofs.WordsBack.{word_told, word_again, end_told, end_again, Follows, spelled_follows}
 
@@ -84,16 +84,16 @@ number_again top (c ∷ d ∷ cs) n h =
 -- a number and what is left
 pub record NumberAt (top : ℕ) (rest : List ℕ) (k : ℕ) (more : List ℕ) : Type 0 where
   pub word : List ℕ
-  pub begins : Begins rest word more
+  pub begins : StartsWithLine rest word more
   pub is : IsRead top word k
 
 pub number_at_told : (top : ℕ) (rest : List ℕ) → Told (λ x. NumberAt top rest x.0 x.1) (number_at top rest)
 unfolding number_at
 number_at_told top rest =
-    told_bind (λ x. Begins rest x.0 x.1) (λ x. NumberAt top rest x.0 x.1) (word_at rest) (λ w. number_of top w.0 >>= λ n. Some (n, w.1)) (word_told rest)
+    told_bind (λ x. StartsWithLine rest x.0 x.1) (λ x. NumberAt top rest x.0 x.1) (word_at rest) (λ w. number_of top w.0 >>= λ n. Some (n, w.1)) (word_told rest)
     (λ w h. told_bind (λ k. IsRead top w.0 k) (λ x. NumberAt top rest x.0 x.1) (number_of top w.0) (λ n. Some (n, w.1)) (number_told top w.0) (λ n r. record { word = w.0; begins = h; is = r }))
 
-pub number_at_again : (top : ℕ) (rest w more : List ℕ) (n : ℕ) → Begins rest w more → IsNumeral w n → Follows more → number_at top rest ≡ Some (min n top, more)
+pub number_at_again : (top : ℕ) (rest w more : List ℕ) (n : ℕ) → StartsWithLine rest w more → IsNumeral w n → Follows more → number_at top rest ≡ Some (min n top, more)
 unfolding number_at
 number_at_again top rest w more n b h f = rw (word_again rest w more b f, number_again top w n h) refl
 

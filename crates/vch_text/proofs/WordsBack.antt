@@ -3,7 +3,7 @@ use Rattle.std.proofs.Common.{◌≡◌, ℕ, true, false, eqb, List, [], ◌∷
 use Rattle.std.proofs.lemmas.Grind.{common_steps}
 use Rattle.std.proofs.lemmas.Bool.{cases_eq}
 use Rattle.vch_text.specs.Words.{front_of, in_front, word_at, end_of}
-use Rattle.vch_model.specs.Grammar.{Piece, IsWord, Begins, AreSpelled}
+use Rattle.vch_model.specs.Grammar.{Piece, IsWord, StartsWithLine, AreSpelled}
 use Rattle.vch_text.proofs.Fronts.{front_other, front_sep, front_none}
 use Rattle.vch_text.proofs.Splits.{front_whole}
 use Rattle.vch_text.proofs.Told.{Told, told_test}
@@ -17,11 +17,11 @@ front_word (c ∷ cs) =
       | inr ne ↦ let no : eqb c 32 ≡ false = grind (arith, common_steps) in rw no (ne, front_word cs)
     ]
 
-pub word_told : (rest : List ℕ) → Told (λ x. Begins rest x.0 x.1) (word_at rest)
+pub word_told : (rest : List ℕ) → Told (λ x. StartsWithLine rest x.0 x.1) (word_at rest)
 unfolding word_at
 word_told [] = tt
 word_told (c ∷ cs) =
-    told_test (λ x. Begins (c ∷ cs) x.0 x.1) (eqb c 32) (Some (front_of 32 cs)) None
+    told_test (λ x. StartsWithLine (c ∷ cs) x.0 x.1) (eqb c 32) (Some (front_of 32 cs)) None
     (λ t. record { parts = let e : c ≡ 32 = grind (arith, common_steps) in rw (e, front_whole 32 cs) refl; word = front_word cs }) (λ f. tt)
 
 -- what may follow a word
@@ -41,7 +41,7 @@ front_again (c ∷ w) more h f = front_other 32 c (w ++ more) h.0 ∙ ap (in_fro
 abbrev got : List ℕ × List ℕ → Option (List ℕ × List ℕ)
 got p = Some p
 
-pub word_again : (rest w more : List ℕ) → Begins rest w more → Follows more → word_at rest ≡ Some (w, more)
+pub word_again : (rest w more : List ℕ) → StartsWithLine rest w more → Follows more → word_at rest ≡ Some (w, more)
 unfolding word_at
 word_again rest w more h f = ap word_at h.parts ∙ ap (λ (p : List ℕ × List ℕ). got p) (front_again w more h.word f)
 

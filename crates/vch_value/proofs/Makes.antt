@@ -16,7 +16,7 @@ use Rattle.vch_base.specs.Values.{is_default}
 use Rattle.vch_base.specs.Managers.{Kept, Lawful, Gets, IsAbsent, answer, own_answer, stored, bare, mapped, received, previous_of, live_at, value_of, value_at, count, vacancy, new_live, more_made, next_handle, slots_with, flags_in}
 use Rattle.vch_base.proofs.CallerLemmas.{inside_of}
 use Rattle.vch_entry.specs.Entries.{Entries}
-use Rattle.vch_value.specs.Picture.{Picture, Stands, Meets, flags_at, claims_at, entry_of, made_picture, got_picture}
+use Rattle.vch_value.specs.Picture.{Picture, Depicts, AgreesAt, flags_at, claims_at, entry_of, made_picture, got_picture}
 use Rattle.vch_value.proofs.Lists.{by_cases, test_same, test_other, race_here, race_other, raced, count_in}
 use Rattle.vch_value.proofs.Spots.{same_spot}
 use Rattle.vch_value.proofs.LetsGo.{stands_one}
@@ -108,24 +108,24 @@ push_other [] o (suc k) n = refl
 push_other (x ∷ slots) o zero n = refl
 push_other (x ∷ slots) o (suc k) n = push_other slots o k (λ e. n (ap suc e))
 
-module _ (p : Picture) (old new : Entries) (k1 k2 : Kept) (laws : Lawful k1) (same : new.slots ≡ old.slots) (room : length p.receipts + 1 ≤ new.spare) (s : Stands p old k1) where
+module _ (p : Picture) (old new : Entries) (k1 k2 : Kept) (laws : Lawful k1) (same : new.slots ≡ old.slots) (room : length p.receipts + 1 ≤ new.spare) (s : Depicts p old k1) where
   entries_same : (h : ℕ) → entry_of new.slots h ≡ entry_of old.slots h
   entries_same h = rw same refl
 
-  unchanged : k2.slots ≡ k1.slots → Stands p new k2
+  unchanged : k2.slots ≡ k1.slots → Depicts p new k2
   unchanged e = record { at = λ h. same_spot _ _ _ _ _ _ _ _ _ _ refl refl refl (ap (λ t. live_at t h) e) (entries_same h) (s.at h); room = omega arith }
 
   -- a handle whose live value is another, and a receipt for it
-  handed : (h : ℕ) (persist : Bool) → Meets (count h p.holders) (persist ∷ flags_at h p.receipts) (map raced (claims_at h p.claims)) (live_at k2.slots h) (entry_of old.slots h)
-      → ((k : ℕ) → k ≢ h → live_at k2.slots k ≡ live_at k1.slots k) → Stands (made_picture (record { handle = h; persist = persist }) p) new k2
+  handed : (h : ℕ) (persist : Bool) → AgreesAt (count h p.holders) (persist ∷ flags_at h p.receipts) (map raced (claims_at h p.claims)) (live_at k2.slots h) (entry_of old.slots h)
+      → ((k : ℕ) → k ≢ h → live_at k2.slots k ≡ live_at k1.slots k) → Depicts (made_picture (record { handle = h; persist = persist }) p) new k2
   handed h persist here others = stands_one p _ old new k1 k2 h s
       (same_spot _ _ _ _ _ _ _ _ _ _ refl (rw (test_same h) refl) (race_here h p.claims) refl (entries_same h) here)
       (λ k n. refl) (λ k n. rw (test_other h k (λ q. n (sym q))) refl) (λ k n. race_other h k p.claims n) others (λ k n. entries_same k) (omega arith)
 
-  again : (x : Value) (h : ℕ) (persist : Bool) → persist ≡ is_default x → value_at k1.slots h ≡ Some x → k2.slots ≡ set k1.slots h (more_made (live_at k1.slots h)) → Stands (made_picture (record { handle = h; persist = persist }) p) new k2
+  again : (x : Value) (h : ℕ) (persist : Bool) → persist ≡ is_default x → value_at k1.slots h ≡ Some x → k2.slots ≡ set k1.slots h (more_made (live_at k1.slots h)) → Depicts (made_picture (record { handle = h; persist = persist }) p) new k2
   again x h persist is at writes = by (live_at k1.slots h) refl at
     where
-      by : (o : Option Live) → live_at k1.slots h ≡ o → value_of o ≡ Some x → Stands (made_picture (record { handle = h; persist = persist }) p) new k2
+      by : (o : Option Live) → live_at k1.slots h ≡ o → value_of o ≡ Some x → Depicts (made_picture (record { handle = h; persist = persist }) p) new k2
       by None e v = absurd (cc)
       by (Some l) e v =
           let w : k2.slots ≡ set k1.slots h (Some (record l { made = l.made + 1 })) = writes ∙ ap (λ o. set k1.slots h (more_made o)) e in
@@ -133,7 +133,7 @@ module _ (p : Picture) (old new : Entries) (k1 k2 : Kept) (laws : Lawful k1) (sa
           handed h persist (rw (w, get_or-set_same k1.slots h (Some (record l { made = l.made + 1 })) None (inside_of k1.slots h l e)) (hand_again _ _ _ l _ persist flag (rw e at (s.at h))))
           (λ k n. ap (λ t. live_at t k) w ∙ get_or-set_other k1.slots h k _ None n)
 
-  fresh : (x : Value) (h : ℕ) (persist : Bool) → persist ≡ is_default x → is_default x ≡ false → (free : List ℕ) → k1.free ≡ free → h ≡ next_handle free (length k1.slots) → k2.slots ≡ slots_with k1.slots free (new_live x) → Stands (made_picture (record { handle = h; persist = persist }) p) new k2
+  fresh : (x : Value) (h : ℕ) (persist : Bool) → persist ≡ is_default x → is_default x ≡ false → (free : List ℕ) → k1.free ≡ free → h ≡ next_handle free (length k1.slots) → k2.slots ≡ slots_with k1.slots free (new_live x) → Depicts (made_picture (record { handle = h; persist = persist }) p) new k2
   fresh x h persist is other [] free at writes =
       let none : live_at k1.slots h ≡ None = get_or_past k1.slots h None (omega arith) in
       handed h persist (rw (writes, at, push_last k1.slots (Some (new_live x))) (hand_fresh _ _ _ _ x persist is other (rw (ap (live_at k1.slots) (sym at) ∙ none) at (s.at (length k1.slots)))))
@@ -143,7 +143,7 @@ module _ (p : Picture) (old new : Entries) (k1 k2 : Kept) (laws : Lawful k1) (sa
       rw at (handed f persist (rw (writes, get_or-set_same k1.slots f (Some (new_live x)) None there.0) (hand_fresh _ _ _ _ x persist is other (rw there.1 at (s.at f))))
       (λ k n. ap (λ t. live_at t k) writes ∙ get_or-set_other k1.slots f k _ None n))
 
-  gets : (a : Result (Option Value) ℤ) (r : Result Got GetFault) → NotNew k1.slots a → Gets k1 a r k2 → Stands (got_picture r p) new k2
+  gets : (a : Result (Option Value) ℤ) (r : Result Got GetFault) → NotNew k1.slots a → Gets k1 a r k2 → Depicts (got_picture r p) new k2
   gets (Err code) (Err (fault.Refused c)) new_one g = unchanged (ap (λ (k : Kept). k.slots) g.1)
   gets (Err code) (Err (fault.NoMemory cause)) new_one g = absurd g
   gets (Err code) (Ok r) new_one g = absurd g
@@ -156,5 +156,5 @@ module _ (p : Picture) (old new : Entries) (k1 k2 : Kept) (laws : Lawful k1) (sa
   gets (Ok (Some x)) (Err (fault.Refused c)) new_one g = absurd g.0
   gets (Ok (Some x)) (Err (fault.NoMemory cause)) new_one g = unchanged g.0.0
 
-  pub stands_make : (by command : ℕ) (previous : Option ℕ) (content : List ℕ) (r : Result Got GetFault) → Gets k1 (answer k1.rules by command (previous_of k1.slots previous) content) r k2 → Stands (got_picture r p) new k2
+  pub stands_make : (by command : ℕ) (previous : Option ℕ) (content : List ℕ) (r : Result Got GetFault) → Gets k1 (answer k1.rules by command (previous_of k1.slots previous) content) r k2 → Depicts (got_picture r p) new k2
   stands_make by command previous content r g = gets _ r (answer_new k1 by command previous content laws) g
