@@ -1,2 +1,2 @@
 -- What other crates cite of the lemmas of this one.
-pub use Rattle.vch_report.proofs.Belows.{below_again, below_none}
+pub use Rattle.vch_report.proofs.words.Belows.{below_again, below_none}

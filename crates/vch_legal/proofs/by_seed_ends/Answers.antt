@@ -1,4 +1,4 @@
-use Rattle.vch_legal.proofs.ScheduleEnds.{seed_ends_from_start}
+use Rattle.vch_legal.proofs.runs.ScheduleEnds.{seed_ends_from_start}
 use Rattle.vch_legal.proofs.by_seed_ends.Goals as goal
 
 pub returns : goal.returns

@@ -1,4 +1,4 @@
-use Rattle.vch_legal.proofs.ScheduleRuns.{seed_from_start}
+use Rattle.vch_legal.proofs.runs.ScheduleRuns.{seed_from_start}
 use Rattle.vch_legal.proofs.by_seed_is_a_run.Goals as goal
 
 pub returns : goal.returns

@@ -1,4 +1,4 @@
-use Rattle.vch_legal.proofs.Keeps.{event_keeps}
+use Rattle.vch_legal.proofs.facts.Keeps.{event_keeps}
 use Rattle.vch_legal.proofs.event_fits.Goals as goal
 
 pub returns : goal.returns

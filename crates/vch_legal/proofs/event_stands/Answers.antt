@@ -1,5 +1,5 @@
-use Rattle.vch_legal.proofs.EventSteps as events
-use Rattle.vch_legal.proofs.Runs.{phase_stands}
+use Rattle.vch_legal.proofs.steps.EventSteps as events
+use Rattle.vch_legal.proofs.runs.Runs.{phase_stands}
 use Rattle.vch_legal.proofs.event_stands.Goals as goal
 
 pub returns-clause-of_task : goal.returns-clause-of_task

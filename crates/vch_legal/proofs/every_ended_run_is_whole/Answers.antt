@@ -1,4 +1,4 @@
-use Rattle.vch_legal.proofs.Runs.{run_whole}
+use Rattle.vch_legal.proofs.runs.Runs.{run_whole}
 use Rattle.vch_legal.proofs.every_ended_run_is_whole.Goals as goal
 
 pub returns : goal.returns

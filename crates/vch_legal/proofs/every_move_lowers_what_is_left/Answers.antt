@@ -1,4 +1,4 @@
-use Rattle.vch_legal.proofs.Bounds.{reached_lowers}
+use Rattle.vch_legal.proofs.bounds.Bounds.{reached_lowers}
 use Rattle.vch_legal.proofs.every_move_lowers_what_is_left.Goals as goal
 
 pub returns : goal.returns

@@ -1,4 +1,4 @@
-use Rattle.vch_legal.proofs.Bounds.{run_bounded}
+use Rattle.vch_legal.proofs.bounds.Bounds.{run_bounded}
 use Rattle.vch_legal.proofs.every_run_is_bounded.Goals as goal
 
 pub returns : goal.returns

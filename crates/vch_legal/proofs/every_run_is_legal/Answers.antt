@@ -1,4 +1,4 @@
-use Rattle.vch_legal.proofs.Runs.{run_legal}
+use Rattle.vch_legal.proofs.runs.Runs.{run_legal}
 use Rattle.vch_legal.proofs.every_run_is_legal.Goals as goal
 
 pub returns : goal.returns

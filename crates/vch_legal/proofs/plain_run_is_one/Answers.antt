@@ -1,4 +1,4 @@
-use Rattle.vch_legal.proofs.OneRun.{one_run}
+use Rattle.vch_legal.proofs.runs.OneRun.{one_run}
 use Rattle.vch_legal.proofs.plain_run_is_one.Goals as goal
 
 pub returns : goal.returns

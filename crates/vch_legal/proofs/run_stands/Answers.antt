@@ -1,4 +1,4 @@
-use Rattle.vch_legal.proofs.Runs.{reached_stands}
+use Rattle.vch_legal.proofs.runs.Runs.{reached_stands}
 use Rattle.vch_legal.proofs.run_stands.Goals as goal
 
 pub returns : goal.returns

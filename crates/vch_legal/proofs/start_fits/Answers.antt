@@ -1,4 +1,4 @@
-use Rattle.vch_legal.proofs.Keeps.{start_keeps}
+use Rattle.vch_legal.proofs.facts.Keeps.{start_keeps}
 use Rattle.vch_legal.proofs.start_fits.Goals as goal
 
 pub returns : goal.returns

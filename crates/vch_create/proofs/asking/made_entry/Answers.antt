@@ -1,4 +1,4 @@
-use Rattle.vch_create.proofs.MakeCalls.{content_there, entry_is}
+use Rattle.vch_create.proofs.making.MakeCalls.{content_there, entry_is}
 use Rattle.vch_create.proofs.asking.made_entry.Goals as goal
 
 pub content_at-content-requires : goal.content_at-content-requires

@@ -1,6 +1,6 @@
 use Rattle.std.proofs.Common.{arith, ◌∙◌, ap, length}
 use Rattle.vch_model.specs.declared.lists.Scenario.{Scenario}
-use Rattle.vch_create.proofs.MakeCalls.{calls_few, phases_few, slots_few, room_fits}
+use Rattle.vch_create.proofs.making.MakeCalls.{calls_few, phases_few, slots_few, room_fits}
 use Rattle.vch_create.proofs.asking.make_room.Goals as goal
 
 pub overflow_add-owed : goal.overflow_add-owed

@@ -1,5 +1,5 @@
 use Rattle.std.proofs.Common.{◌∙◌, refl}
-use Rattle.vch_create.proofs.BeginEvent.{begin_range, begin_few, begin_room, answer_follows, create_of}
+use Rattle.vch_create.proofs.beginning.BeginEvent.{begin_range, begin_few, begin_room, answer_follows, create_of}
 use Rattle.vch_create.proofs.begin.answer_create.Goals as goal
 
 pub begin-number-requires-clause-task : goal.begin-number-requires-clause-task

@@ -1,5 +1,5 @@
 use Rattle.std.proofs.Common.{◌∙◌, refl}
-use Rattle.vch_create.proofs.BeginEvent.{begin_range, begin_few, begun_range, form_follows}
+use Rattle.vch_create.proofs.beginning.BeginEvent.{begin_range, begin_few, begun_range, form_follows}
 use Rattle.vch_create.proofs.begin.form_create.Goals as goal
 
 pub begin-requires-clause-task : goal.begin-requires-clause-task

@@ -1,8 +1,8 @@
 use Rattle.std.proofs.Common.{sym, subst, inl, inr}
 use Rattle.vch_base.specs.declared.key.Key.TheVariants as keys
 use Rattle.vch_create.specs.Works.{ChangesAt}
-use Rattle.vch_create.proofs.WorkKeys.{each_of_three, each_of_four}
-use Rattle.vch_create.proofs.WorkShares.{can_after, can_less}
+use Rattle.vch_create.proofs.working.WorkKeys.{each_of_three, each_of_four}
+use Rattle.vch_create.proofs.working.WorkShares.{can_after, can_less}
 use Rattle.vch_create.proofs.change.change_keys.Goals as goal
 
 pub change_key-requires-in-All-2-clause-shares : goal.change_key-requires-in-All-2-clause-shares

@@ -1,6 +1,6 @@
 use Rattle.std.proofs.Common.{sym, subst}
 use Rattle.vch_create.specs.Works.{Keeps, MayShare}
-use Rattle.vch_create.proofs.WorkShares.{keeps_of}
+use Rattle.vch_create.proofs.working.WorkShares.{keeps_of}
 use Rattle.vch_create.proofs.change.share_index.Goals as goal
 
 pub returns-in-Some-clause-keeps : goal.returns-in-Some-clause-keeps

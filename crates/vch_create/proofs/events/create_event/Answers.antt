@@ -2,7 +2,7 @@ use Rattle.std.proofs.Common.{sym, subst}
 use Rattle.vch_state.specs.declared.parts.Parts.{Parts}
 use Rattle.vch_state.proofs.CallerLemmas.{reached_may}
 use Rattle.vch_create.specs.Called.{IsOfCall}
-use Rattle.vch_create.proofs.Calling.{of_call, some_next}
+use Rattle.vch_create.proofs.beginning.Calling.{of_call, some_next}
 use Rattle.vch_create.proofs.events.create_event.Goals as goal
 
 pub unreachable-requires : goal.unreachable-requires

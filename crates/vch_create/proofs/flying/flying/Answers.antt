@@ -1,5 +1,5 @@
 use Rattle.std.proofs.Common.{arith}
-use Rattle.vch_create.proofs.Flights.{flying_step}
+use Rattle.vch_create.proofs.making.Flights.{flying_step}
 use Rattle.vch_create.proofs.flying.flying.Goals as goal
 
 pub loop-i-preserved : goal.loop-i-preserved

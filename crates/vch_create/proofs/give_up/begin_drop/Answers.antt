@@ -1,7 +1,7 @@
 use Rattle.std.proofs.Common.{◌∙◌, refl}
-use Rattle.vch_create.proofs.BeginEvent.{begin_range, begin_few, begun_range, begin_room}
-use Rattle.vch_create.proofs.DropEvent.{drop_follows}
-use Rattle.vch_create.proofs.WorkNext.{all_there, in_spaces}
+use Rattle.vch_create.proofs.beginning.BeginEvent.{begin_range, begin_few, begun_range, begin_room}
+use Rattle.vch_create.proofs.dropping.DropEvent.{drop_follows}
+use Rattle.vch_create.proofs.working.WorkNext.{all_there, in_spaces}
 use Rattle.vch_create.proofs.give_up.begin_drop.Goals as goal
 
 pub begin-number-requires-clause-task : goal.begin-number-requires-clause-task

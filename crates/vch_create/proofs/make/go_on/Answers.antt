@@ -3,11 +3,11 @@ use Rattle.std.specs.Prelude.{Ok, Err}
 use Rattle.vch_value.specs.declared.flight.Made.TheVariants as made
 use Rattle.vch_state.specs.declared.parts.Parts.{Parts}
 use Rattle.vch_create.specs.Makes.{MakeAnswers}
-use Rattle.vch_create.proofs.MakeCalls.{handle_few, past_few}
-use Rattle.vch_create.proofs.MakeEvent.{roomier_next, roomier_forms, wanted_follows, refused_follows, refused_roomier, memory_roomier, nothing_roomier, nothing_follows}
-use Rattle.vch_create.proofs.MakeReceipt.{again_given, fresh_given}
-use Rattle.vch_create.proofs.Roomier.{roomier_reached}
-use Rattle.vch_create.proofs.WorkNext.{in_workings}
+use Rattle.vch_create.proofs.making.MakeCalls.{handle_few, past_few}
+use Rattle.vch_create.proofs.making.MakeEvent.{roomier_next, roomier_forms, wanted_follows, refused_follows, refused_roomier, memory_roomier, nothing_roomier, nothing_follows}
+use Rattle.vch_create.proofs.making.MakeReceipt.{again_given, fresh_given}
+use Rattle.vch_create.proofs.keeping.Roomier.{roomier_reached}
+use Rattle.vch_create.proofs.working.WorkNext.{in_workings}
 use Rattle.vch_create.proofs.make.go_on.Goals as goal
 
 pub lose-requires-clause-reached : goal.lose-requires-clause-reached

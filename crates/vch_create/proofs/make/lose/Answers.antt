@@ -2,8 +2,8 @@ use Rattle.std.proofs.Common.{◌<◌, ◌≤◌, ◌∙◌, sym, ap, refl, subs
 use Rattle.std.specs.Option.{option_copied}
 use Rattle.vch_machine.specs.Next.{nth_call}
 use Rattle.vch_state.specs.declared.frames.Working.{Working}
-use Rattle.vch_create.proofs.LosesEvent.{frame_there, call_there, map_few, place_there, is_loss}
-use Rattle.vch_create.proofs.WorkNext.{in_workings}
+use Rattle.vch_create.proofs.making.LosesEvent.{frame_there, call_there, map_few, place_there, is_loss}
+use Rattle.vch_create.proofs.working.WorkNext.{in_workings}
 use Rattle.vch_create.proofs.make.lose.Goals as goal
 
 pub at-requires : goal.at-requires

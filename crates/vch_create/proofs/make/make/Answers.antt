@@ -1,6 +1,6 @@
 use Rattle.std.proofs.Common.{refl}
-use Rattle.vch_create.proofs.MakeEvent.{roomier_next, roomier_forms, wanted_follows, make_after}
-use Rattle.vch_create.proofs.Roomier.{roomier_reached}
+use Rattle.vch_create.proofs.making.MakeEvent.{roomier_next, roomier_forms, wanted_follows, make_after}
+use Rattle.vch_create.proofs.keeping.Roomier.{roomier_reached}
 use Rattle.vch_create.proofs.make.make.Goals as goal
 
 pub go_on-requires-clause-reached : goal.go_on-requires-clause-reached

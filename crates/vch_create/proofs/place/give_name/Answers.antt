@@ -1,4 +1,4 @@
-use Rattle.vch_create.proofs.Giving.{gives_kept, gives_back, with_twice}
+use Rattle.vch_create.proofs.placing.Giving.{gives_kept, gives_back, with_twice}
 use Rattle.vch_create.proofs.place.give_name.Goals as goal
 
 pub returns-then-had_one-clause-gives : goal.returns-then-had_one-clause-gives

@@ -2,10 +2,10 @@ use Rattle.std.proofs.Common.{◌∙◌, sym, ap, refl}
 use Rattle.vch_create.specs.Gives.{map_in}
 use Rattle.vch_state.specs.declared.frames.Working.{Working}
 use Rattle.vch_state.specs.Plain.{frame_of}
-use Rattle.vch_create.proofs.PlaceEvent.{formed_by, forms_of, place_forms, reserved_reached, wanted_follows, place_follows}
-use Rattle.vch_create.proofs.References.{slots_few, references_few, next_few, name_references_few}
-use Rattle.vch_create.proofs.RefusedEvent.{refuse_room}
-use Rattle.vch_create.proofs.WorkNext.{in_spaces, in_workings}
+use Rattle.vch_create.proofs.placing.PlaceEvent.{formed_by, forms_of, place_forms, reserved_reached, wanted_follows, place_follows}
+use Rattle.vch_create.proofs.placing.References.{slots_few, references_few, next_few, name_references_few}
+use Rattle.vch_create.proofs.refusals.RefusedEvent.{refuse_room}
+use Rattle.vch_create.proofs.working.WorkNext.{in_spaces, in_workings}
 use Rattle.vch_create.proofs.place.place.Goals as goal
 
 pub at-requires : goal.at-requires

@@ -2,8 +2,8 @@ use Rattle.std.proofs.Common.{◌≤◌, ◌∙◌, sym, ap, subst, length, Some
 use Rattle.std.specs.Option.{option_copied}
 use Rattle.vch_machine.specs.Next.{nth_call}
 use Rattle.vch_state.specs.declared.frames.Working.{Working}
-use Rattle.vch_create.proofs.MakeCalls.{record_there}
-use Rattle.vch_create.proofs.WorkNext.{all_there, in_spaces, in_workings}
+use Rattle.vch_create.proofs.making.MakeCalls.{record_there}
+use Rattle.vch_create.proofs.working.WorkNext.{all_there, in_spaces, in_workings}
 use Rattle.vch_create.proofs.question.read_question.Goals as goal
 
 pub at-working-requires : goal.at-working-requires

@@ -1,6 +1,6 @@
 use Rattle.std.proofs.Common.{sym, ◌∙◌, subst, drop, length}
 use Rattle.vch_create.specs.Works.{voucher_of}
-use Rattle.vch_create.proofs.WorkReads.{reads_step}
+use Rattle.vch_create.proofs.working.WorkReads.{reads_step}
 use Rattle.vch_recipe.specs.Step.{IsStep}
 use Rattle.vch_create.proofs.record.read_record.Goals as goal
 

@@ -1,5 +1,5 @@
 use Rattle.std.proofs.Common.{◌∙◌, sym, refl}
-use Rattle.vch_create.proofs.RefusedEvent.{refuse_room, refuse_is}
+use Rattle.vch_create.proofs.refusals.RefusedEvent.{refuse_room, refuse_is}
 use Rattle.vch_create.proofs.refuse.end_with.Goals as goal
 
 pub push-requires : goal.push-requires

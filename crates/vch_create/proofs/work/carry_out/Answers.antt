@@ -1,7 +1,7 @@
 use Rattle.std.proofs.Common.{◌∙◌, sym, refl, subst}
 use Rattle.vch_create.specs.Works.{ChangesBy}
-use Rattle.vch_create.proofs.WorkNext.{in_workings, some_frame, some_map, keyed_map}
-use Rattle.vch_create.proofs.WorkEvent.{may_change, lets_few, work_follows}
+use Rattle.vch_create.proofs.working.WorkNext.{in_workings, some_frame, some_map, keyed_map}
+use Rattle.vch_create.proofs.working.WorkEvent.{may_change, lets_few, work_follows}
 use Rattle.vch_create.proofs.work.carry_out.Goals as goal
 
 pub take-requires : goal.take-requires

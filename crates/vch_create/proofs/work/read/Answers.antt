@@ -2,8 +2,8 @@ use Rattle.std.proofs.Common.{ℕ, ◌≤◌, List, length, Some, ◌∙◌, sym
 use Rattle.std.specs.Option.{option_copied}
 use Rattle.vch_machine.specs.Next.{nth_call}
 use Rattle.vch_state.specs.declared.frames.Working.{Working}
-use Rattle.vch_create.proofs.Codes.{own_code_of}
-use Rattle.vch_create.proofs.WorkNext.{in_workings, in_spaces, all_there, inside}
+use Rattle.vch_create.proofs.refusals.Codes.{own_code_of}
+use Rattle.vch_create.proofs.working.WorkNext.{in_workings, in_spaces, all_there, inside}
 use Rattle.vch_create.proofs.work.read.Goals as goal
 
 pub at-working-requires : goal.at-working-requires

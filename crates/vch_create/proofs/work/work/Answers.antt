@@ -1,7 +1,7 @@
 use Rattle.std.proofs.Common.{subst}
 use Rattle.vch_create.specs.Carried.{ReadsNext}
-use Rattle.vch_create.proofs.WorkEvent.{refusal_follows}
-use Rattle.vch_create.proofs.WorkNext.{forms_there}
+use Rattle.vch_create.proofs.working.WorkEvent.{refusal_follows}
+use Rattle.vch_create.proofs.working.WorkNext.{forms_there}
 use Rattle.vch_create.proofs.work.work.Goals as goal
 
 pub refuse-requires-clause-forms : goal.refuse-requires-clause-forms

@@ -1,12 +1,12 @@
-use Rattle.vch_model.proofs.WorkedCountsWhole as counts
-use Rattle.vch_model.proofs.WorkedKeysWhole as by_key
-use Rattle.vch_model.proofs.WorkedListsWhole as lists
-use Rattle.vch_model.proofs.WorkedNamesWhole as names
-use Rattle.vch_model.proofs.WorkedLongWhole as long
-use Rattle.vch_model.proofs.WorkedRecipesWhole as recipes
-use Rattle.vch_model.proofs.WorkedRecordsWhole as records
-use Rattle.vch_model.proofs.WorkedRefusalsWhole as refusals
-use Rattle.vch_model.proofs.WorkedTwoWhole as two
+use Rattle.vch_model.proofs.worked.WorkedCountsWhole as counts
+use Rattle.vch_model.proofs.worked.WorkedKeysWhole as by_key
+use Rattle.vch_model.proofs.worked.WorkedListsWhole as lists
+use Rattle.vch_model.proofs.worked.WorkedNamesWhole as names
+use Rattle.vch_model.proofs.worked.WorkedLongWhole as long
+use Rattle.vch_model.proofs.worked.WorkedRecipesWhole as recipes
+use Rattle.vch_model.proofs.worked.WorkedRecordsWhole as records
+use Rattle.vch_model.proofs.worked.WorkedRefusalsWhole as refusals
+use Rattle.vch_model.proofs.worked.WorkedTwoWhole as two
 use Rattle.vch_model.proofs.laws.worked_parts.Goals as goal
 
 -- src/laws.rt

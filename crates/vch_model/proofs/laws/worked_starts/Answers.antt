@@ -1,4 +1,4 @@
-use Rattle.vch_model.proofs.WorkedStarts.{are_starts}
+use Rattle.vch_model.proofs.worked.WorkedStarts.{are_starts}
 use Rattle.vch_model.proofs.laws.worked_starts.Goals as goal
 
 pub returns : goal.returns

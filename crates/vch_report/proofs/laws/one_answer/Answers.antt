@@ -1,4 +1,4 @@
-use Rattle.vch_report.proofs.Wholes as wholes
+use Rattle.vch_report.proofs.wholes.Wholes as wholes
 use Rattle.vch_report.proofs.laws.one_answer.Goals as goal
 
 pub returns : goal.returns

@@ -1,6 +1,6 @@
 use Rattle.std.proofs.Common.{refl}
 use Rattle.vch_report.specs.Items.{text_of}
-use Rattle.vch_report.proofs.Wholes.{one_report}
+use Rattle.vch_report.proofs.wholes.Wholes.{one_report}
 use Rattle.vch_report.proofs.laws.one_text.Goals as goal
 
 pub returns : goal.returns

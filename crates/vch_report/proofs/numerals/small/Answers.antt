@@ -1,5 +1,5 @@
 use Rattle.std.proofs.Common.{◌^◌, arith}
-use Rattle.vch_report.proofs.Belows.{below_again, below_none}
+use Rattle.vch_report.proofs.words.Belows.{below_again, below_none}
 use Rattle.vch_report.proofs.numerals.small.Goals as goal
 
 pub returns-in_err-n : goal.returns-in_err-n

@@ -1,4 +1,4 @@
-use Rattle.vch_report.proofs.CopyLoops.{copied_next}
+use Rattle.vch_report.proofs.wholes.CopyLoops.{copied_next}
 use Rattle.vch_report.proofs.of_core.copy_history.Goals as goal
 
 pub loop-i-preserved : goal.loop-i-preserved

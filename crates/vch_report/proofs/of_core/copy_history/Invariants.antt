@@ -1,4 +1,4 @@
-use Rattle.vch_report.proofs.CopyLoops.{Copied}
+use Rattle.vch_report.proofs.wholes.CopyLoops.{Copied}
 use Rattle.vch_report.proofs.of_core.copy_history.Given as goal
 
 abbrev pub invariant-loop-i : goal.invariant-loop-i

@@ -1,6 +1,6 @@
 use Rattle.std.proofs.Common.{◌∙◌, ◌++◌, ◌∷◌, [], ap}
 use Rattle.vch_report.specs.OfCore.{no_total}
-use Rattle.vch_report.proofs.CopyLoops.{totals_next}
+use Rattle.vch_report.proofs.wholes.CopyLoops.{totals_next}
 use Rattle.vch_report.proofs.of_core.empty_totals.Goals as goal
 
 pub loop-i-preserved : goal.loop-i-preserved

@@ -6,7 +6,7 @@ use Rattle.vch_model.specs.declared.lists.Scenario.{Scenario}
 use Rattle.vch_state.specs.declared.parts.Parts.{Parts}
 use Rattle.vch_report.specs.OfCore.{HasTask, no_totals}
 use Rattle.vch_report.specs.WellFormed.{Making}
-use Rattle.vch_report.proofs.CoreReports.{core_copied, core_tells, core_formed}
+use Rattle.vch_report.proofs.from_core.CoreReports.{core_copied, core_tells, core_formed}
 use Rattle.vch_report.proofs.of_core.report_of.Goals as goal
 
 pub copy_history-requires : goal.copy_history-requires

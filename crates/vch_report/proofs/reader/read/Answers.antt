@@ -1,4 +1,4 @@
-use Rattle.vch_report.proofs.Loops.{found_by, only_by, fault_by, fault_only_by}
+use Rattle.vch_report.proofs.wholes.Loops.{found_by, only_by, fault_by, fault_only_by}
 use Rattle.vch_report.proofs.reader.read.Goals as goal
 
 pub returns : goal.returns

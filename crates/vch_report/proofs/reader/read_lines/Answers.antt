@@ -1,7 +1,7 @@
 use Rattle.std.proofs.Common.{◌∙◌, sym, ap, arith, length}
 use Rattle.vch_model.specs.TextLines.{split_of}
 use Rattle.vch_report.specs.Reading as reading
-use Rattle.vch_report.proofs.Loops.{fault_read, line_read, end_read, start_read, stopped_by, reads_by, step_few}
+use Rattle.vch_report.proofs.wholes.Loops.{fault_read, line_read, end_read, start_read, stopped_by, reads_by, step_few}
 use Rattle.vch_report.proofs.reader.read_lines.Goals as goal
 
 pub loop-line-init : goal.loop-line-init

@@ -1,5 +1,5 @@
 use Rattle.std.proofs.Common.{◌∙◌, sym, arith, length-append, [], ◌∷◌}
-use Rattle.vch_report.proofs.Chains.{first_none, first_some, next_none, next_some, next_many, no_more, left_shorter}
+use Rattle.vch_report.proofs.words.Chains.{first_none, first_some, next_none, next_some, next_many, no_more, left_shorter}
 use Rattle.vch_report.proofs.values.chain.Goals as goal
 
 pub returns-in_err-ordinal : goal.returns-in_err-ordinal

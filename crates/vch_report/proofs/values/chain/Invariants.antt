@@ -1,5 +1,5 @@
 use Rattle.std.proofs.Common.{◌≤◌, length}
-use Rattle.vch_report.proofs.Chains.{IsLed}
+use Rattle.vch_report.proofs.words.Chains.{IsLed}
 use Rattle.vch_report.proofs.values.chain.Given as goal
 
 abbrev pub invariant-loop-rest : goal.invariant-loop-rest

@@ -1,7 +1,7 @@
 use Rattle.std.proofs.Common.{◌+◌, take}
 use Rattle.std.specs.List.{flat_map}
 use Rattle.vch_model.specs.Text.{entry_line}
-use Rattle.vch_report.proofs.Loops.{pushed, entry_next}
+use Rattle.vch_report.proofs.wholes.Loops.{pushed, entry_next}
 use Rattle.vch_report.proofs.writer.push_entries.Goals as goal
 
 pub loop-i-preserved : goal.loop-i-preserved

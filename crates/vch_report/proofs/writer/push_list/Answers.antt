@@ -1,7 +1,7 @@
 use Rattle.std.proofs.Common.{◌+◌, ◌<◌, ◌∙◌, ap, arith, length, take, codes}
 use Rattle.std.specs.Fmt.{decimal}
-use Rattle.vch_report.proofs.ChainWords.{chain_text}
-use Rattle.vch_report.proofs.Loops.{pushed, pushed_next, task_first, task_next}
+use Rattle.vch_report.proofs.words.ChainWords.{chain_text}
+use Rattle.vch_report.proofs.wholes.Loops.{pushed, pushed_next, task_first, task_next}
 use Rattle.vch_report.proofs.writer.push_list.Goals as goal
 use Rattle.vch_report.proofs.writer.push_list.Goals.{then-i-gt0+in_ok-push_text, else-i-gt0}
 

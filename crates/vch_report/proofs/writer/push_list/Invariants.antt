@@ -1,5 +1,5 @@
 use Rattle.std.proofs.Common.{◌≡◌, ◌++◌, take}
-use Rattle.vch_report.proofs.ChainWords.{chain_text}
+use Rattle.vch_report.proofs.words.ChainWords.{chain_text}
 use Rattle.vch_report.proofs.writer.push_list.Given as goal
 
 abbrev pub invariant-loop-i : goal.invariant-loop-i

@@ -1,6 +1,6 @@
 use Rattle.std.proofs.Common.{◌≡◌, ◌+◌, ◌++◌, ◌∙◌, ap, arith, take}
 use Rattle.vch_model.specs.Text.{total_line, total_lines}
-use Rattle.vch_report.proofs.Loops.{pushed, total_next}
+use Rattle.vch_report.proofs.wholes.Loops.{pushed, total_next}
 use Rattle.vch_report.proofs.writer.push_totals.Goals as goal
 
 pub loop-i-preserved : goal.loop-i-preserved

@@ -1,4 +1,4 @@
-use Rattle.vch_report.proofs.Loops.{written, all_made}
+use Rattle.vch_report.proofs.wholes.Loops.{written, all_made}
 use Rattle.vch_report.proofs.writer.write.Goals as goal
 
 pub push_entries-requires : goal.push_entries-requires

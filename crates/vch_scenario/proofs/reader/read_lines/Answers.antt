@@ -1,8 +1,8 @@
 use Rattle.std.proofs.Common.{◌∙◌, sym, ap, arith, length}
 use Rattle.vch_scenario.specs.Whole as whole
 use Rattle.vch_model.specs.TextLines.{split_of}
-use Rattle.vch_scenario.proofs.Runs.{fault_read, line_read, lines_none, start_read, stopped_by, reads_by}
-use Rattle.vch_scenario.proofs.Fitting.{step_fits}
+use Rattle.vch_scenario.proofs.drafts.Runs.{fault_read, line_read, lines_none, start_read, stopped_by, reads_by}
+use Rattle.vch_scenario.proofs.drafts.Fitting.{step_fits}
 use Rattle.vch_scenario.proofs.reader.read_lines.Goals as goal
 
 pub loop-line-init : goal.loop-line-init

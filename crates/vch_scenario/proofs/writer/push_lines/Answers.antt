@@ -2,7 +2,7 @@ use Rattle.std.proofs.Common.{◌+◌, take}
 use Rattle.vch_model.specs.Grammar.{Calls}
 use Rattle.vch_model.specs.Canonical.{item_line, items_text}
 use Rattle.vch_model.specs.Scenarios.{line_items}
-use Rattle.vch_scenario.proofs.Texts.{pushed, line_next}
+use Rattle.vch_scenario.proofs.wholes.Texts.{pushed, line_next}
 use Rattle.vch_scenario.proofs.writer.push_lines.Goals as goal
 
 pub loop-i-preserved : goal.loop-i-preserved

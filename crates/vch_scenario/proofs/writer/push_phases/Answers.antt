@@ -2,7 +2,7 @@ use Rattle.std.proofs.Common.{◌+◌, ◌++◌, ◌∙◌, ap, take, append_ass
 use Rattle.vch_model.specs.Grammar.{Phase}
 use Rattle.vch_model.specs.Canonical.{item_line, items_text}
 use Rattle.vch_model.specs.Scenarios.{line_items, phase_items}
-use Rattle.vch_scenario.proofs.Texts.{pushed, phase_next}
+use Rattle.vch_scenario.proofs.wholes.Texts.{pushed, phase_next}
 use Rattle.vch_scenario.proofs.writer.push_phases.Goals as goal
 
 pub loop-i-preserved : goal.loop-i-preserved

@@ -1,5 +1,5 @@
 use Rattle.std.proofs.Common.{◌≡◌, ◌+◌, ◌∙◌, refl, arith, take}
-use Rattle.vch_scenario.proofs.Texts.{pushed, tasks_text, task_text, task_next}
+use Rattle.vch_scenario.proofs.wholes.Texts.{pushed, tasks_text, task_text, task_next}
 use Rattle.vch_scenario.proofs.writer.push_tasks.Goals as goal
 
 pub loop-i-preserved : goal.loop-i-preserved

@@ -1,5 +1,5 @@
 use Rattle.std.proofs.Common.{◌≡◌, ◌++◌, take}
-use Rattle.vch_scenario.proofs.Texts.{tasks_text}
+use Rattle.vch_scenario.proofs.wholes.Texts.{tasks_text}
 use Rattle.vch_scenario.proofs.writer.push_tasks.Given as goal
 
 abbrev pub invariant-loop-i : goal.invariant-loop-i

@@ -3,8 +3,8 @@ use Rattle.std.specs.Fmt.{decimal}
 use Rattle.vch_model.specs.declared.lists.Scenario.{Scenario}
 use Rattle.vch_model.specs.Scenarios.{IsScenario}
 use Rattle.vch_model.specs.Canonical.{Canon, IsWritable}
-use Rattle.vch_scenario.proofs.Canons.{canon_scenario}
-use Rattle.vch_scenario.proofs.Texts.{written}
+use Rattle.vch_scenario.proofs.wholes.Canons.{canon_scenario}
+use Rattle.vch_scenario.proofs.wholes.Texts.{written}
 use Rattle.vch_scenario.proofs.writer.write.Goals as goal
 
 read_again : (text : List ℕ) (sc : Scenario) → text ≡ Canon sc → IsWritable sc → IsScenario text sc

@@ -1,5 +1,5 @@
 use Rattle.std.proofs.Common.{◌∙◌, sym, refl}
-use Rattle.vch_state.proofs.AsksEvent.{ask_there, ask_live, ask_other, ask_room, asks_few, asked_few, ask_follows}
+use Rattle.vch_state.proofs.asks.AsksEvent.{ask_there, ask_live, ask_other, ask_room, asks_few, asked_few, ask_follows}
 use Rattle.vch_state.proofs.ask.ask.Goals as goal
 
 pub handle-handle-requires : goal.handle-handle-requires

@@ -1,4 +1,4 @@
-use Rattle.vch_state.proofs.Loops.{take_next}
+use Rattle.vch_state.proofs.starting.Loops.{take_next}
 use Rattle.vch_state.proofs.copy.copy_phases.Goals as goal
 
 pub loop-i-preserved : goal.loop-i-preserved

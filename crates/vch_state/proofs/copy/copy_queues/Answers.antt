@@ -1,5 +1,5 @@
 use Rattle.std.proofs.Common.{refl}
-use Rattle.vch_state.proofs.Loops.{take_next}
+use Rattle.vch_state.proofs.starting.Loops.{take_next}
 use Rattle.vch_state.proofs.copy.copy_queues.Goals as goal
 
 pub loop-i-preserved : goal.loop-i-preserved

@@ -1,5 +1,5 @@
 use Rattle.std.proofs.Common.{◌∙◌, sym, refl}
-use Rattle.vch_state.proofs.LetsGoEvent.{let_go_there, let_go_counts, let_go_follows, claims_few}
+use Rattle.vch_state.proofs.lets.LetsGoEvent.{let_go_there, let_go_counts, let_go_follows, claims_few}
 use Rattle.vch_state.proofs.let_go.let_go.Goals as goal
 
 pub let_go-claim-requires-clause-there : goal.let_go-claim-requires-clause-there

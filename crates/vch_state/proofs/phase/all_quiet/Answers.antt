@@ -1,7 +1,7 @@
 use Rattle.std.proofs.Common.{◌+◌, arith, ap, length}
 use Rattle.vch_model.specs.declared.lists.Scenario.{Scenario}
-use Rattle.vch_state.proofs.PhaseEnds.{roomy, number_of_task}
-use Rattle.vch_state.proofs.NextKinds.{task_inside}
+use Rattle.vch_state.proofs.phases.PhaseEnds.{roomy, number_of_task}
+use Rattle.vch_state.proofs.framing.NextKinds.{task_inside}
 use Rattle.vch_state.proofs.phase.all_quiet.Goals as goal
 
 pub overflow_cast-ended : goal.overflow_cast-ended

@@ -1,5 +1,5 @@
 use Rattle.std.proofs.Common.{arith}
-use Rattle.vch_state.proofs.PhaseEnds.{roomy, phase_follows}
+use Rattle.vch_state.proofs.phases.PhaseEnds.{roomy, phase_follows}
 use Rattle.vch_state.proofs.phase.end_phase.Goals as goal
 
 pub push-requires : goal.push-requires

@@ -1,5 +1,5 @@
 use Rattle.std.proofs.Common.{arith}
-use Rattle.vch_state.proofs.Placing.{adds_next, adds_all}
+use Rattle.vch_state.proofs.starting.Placing.{adds_next, adds_all}
 use Rattle.vch_state.proofs.places.add_lines.Goals as goal
 
 pub loop-line-preserved : goal.loop-line-preserved

@@ -1,5 +1,5 @@
 use Rattle.std.proofs.Common.{arith, length}
-use Rattle.vch_state.proofs.Placing.{placed_phase}
+use Rattle.vch_state.proofs.starting.Placing.{placed_phase}
 use Rattle.vch_state.proofs.places.places_of.Goals as goal
 
 pub loop-phase-preserved : goal.loop-phase-preserved

@@ -1,5 +1,5 @@
 use Rattle.std.proofs.Common.{◌∙◌, sym, refl}
-use Rattle.vch_state.proofs.RechecksEvent.{recheck_releasing, recheck_within, recheck_follows}
+use Rattle.vch_state.proofs.rechecks.RechecksEvent.{recheck_releasing, recheck_within, recheck_follows}
 use Rattle.vch_state.proofs.recheck.recheck.Goals as goal
 
 pub recheck-claim-requires-clause-releasing : goal.recheck-claim-requires-clause-releasing

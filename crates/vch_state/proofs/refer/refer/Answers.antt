@@ -2,8 +2,8 @@ use Rattle.std.proofs.Common.{◌∙◌, ◌≤◌, sym, ap, subst, refl}
 use Rattle.std.specs.Option.{option_copied}
 use Rattle.vch_machine.specs.Next.{nth_call}
 use Rattle.vch_state.specs.declared.frames.Working.{Working}
-use Rattle.vch_state.proofs.NextKinds.{task_inside}
-use Rattle.vch_state.proofs.RefersEvent.{refer_call, refer_room, refer_counts, refer_keys, refer_lets, refer_place, refers_few, refer_follows}
+use Rattle.vch_state.proofs.framing.NextKinds.{task_inside}
+use Rattle.vch_state.proofs.refers.RefersEvent.{refer_call, refer_room, refer_counts, refer_keys, refer_lets, refer_place, refers_few, refer_follows}
 use Rattle.vch_state.proofs.refer.refer.Goals as goal
 
 pub returns-in_default-call : goal.returns-in_default-call

@@ -1,5 +1,5 @@
 use Rattle.std.proofs.Common.{arith}
-use Rattle.vch_state.proofs.Loops.{count_step, count_fits}
+use Rattle.vch_state.proofs.starting.Loops.{count_step, count_fits}
 use Rattle.vch_state.proofs.script.count_calls.Goals as goal
 
 pub overflow_add-count : goal.overflow_add-count

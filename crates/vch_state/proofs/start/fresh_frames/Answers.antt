@@ -1,6 +1,6 @@
 use Rattle.std.proofs.Common.{◌∙◌, ◌++◌, ◌∷◌, [], ap}
 use Rattle.vch_state.specs.Plain.{resting}
-use Rattle.vch_state.proofs.Loops.{resting_next}
+use Rattle.vch_state.proofs.starting.Loops.{resting_next}
 use Rattle.vch_state.proofs.start.fresh_frames.Goals as goal
 
 pub loop-i-preserved : goal.loop-i-preserved

@@ -1,6 +1,6 @@
 use Rattle.std.proofs.Common.{sym, subst}
 use Rattle.vch_state.specs.Fresh.{AreFresh}
-use Rattle.vch_state.proofs.Loops.{fresh_next, one_longer}
+use Rattle.vch_state.proofs.starting.Loops.{fresh_next, one_longer}
 use Rattle.vch_state.proofs.start.fresh_spaces.Goals as goal
 
 pub loop-i-preserved : goal.loop-i-preserved

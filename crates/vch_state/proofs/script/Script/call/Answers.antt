@@ -1,7 +1,7 @@
 use Rattle.std.proofs.Common.{◌≡◌, Some, sym, ◌∙◌, subst, length}
 use Rattle.vch_machine.specs.Next.{nth_call}
 use Rattle.vch_model.specs.declared.lists.Scenario.{Scenario}
-use Rattle.vch_state.proofs.CallsFound.{phase_inside, line_inside, call_found}
+use Rattle.vch_state.proofs.starting.CallsFound.{phase_inside, line_inside, call_found}
 use Rattle.vch_state.proofs.script.Script.call.Goals as goal
 
 pub at-requires : goal.at-requires

@@ -1,7 +1,7 @@
 use Rattle.std.proofs.Common.{◌+◌, ◌<◌, ◌↔◌, IsTrue, nat_le, false, sym, ◌∙◌, subst, length}
 use Rattle.vch_model.specs.declared.lists.Scenario.{Scenario}
 use Rattle.vch_model.specs.Lines.{lines_until}
-use Rattle.vch_state.proofs.CallsFound.{has_more, has_no_more}
+use Rattle.vch_state.proofs.starting.CallsFound.{has_more, has_no_more}
 use Rattle.vch_state.proofs.script.Script.has_call.Goals as goal
 
 pub returns-in-Some : goal.returns-in-Some

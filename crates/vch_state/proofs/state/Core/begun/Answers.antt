@@ -1,7 +1,7 @@
 use Rattle.std.proofs.Common.{◌≡◌, true, sym, subst}
 use Rattle.vch_model.specs.Lines.{is_task}
 use Rattle.vch_state.specs.declared.parts.Parts.{Parts}
-use Rattle.vch_state.proofs.NextKinds.{task_inside}
+use Rattle.vch_state.proofs.framing.NextKinds.{task_inside}
 use Rattle.vch_state.proofs.state.Core.begun.Goals as goal
 
 pub at-requires : goal.at-requires

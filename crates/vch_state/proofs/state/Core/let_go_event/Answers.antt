@@ -1,5 +1,5 @@
 use Rattle.vch_base.specs.declared.kind.Kind.TheVariants as kinds
-use Rattle.vch_state.proofs.RunOn.{reached_after}
+use Rattle.vch_state.proofs.counts.RunOn.{reached_after}
 use Rattle.vch_state.proofs.state.Core.let_go_event.Goals as goal
 
 pub invariant_of-self : goal.invariant_of-self

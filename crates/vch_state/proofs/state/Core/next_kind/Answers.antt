@@ -2,7 +2,7 @@ use Rattle.std.proofs.Common.{◌≡◌, true, sym, subst}
 use Rattle.vch_model.specs.Lines.{is_task}
 use Rattle.vch_state.specs.declared.parts.Parts.{Parts}
 use Rattle.vch_state.specs.Reached.{IsNext}
-use Rattle.vch_state.proofs.NextKinds.{task_inside, is_next}
+use Rattle.vch_state.proofs.framing.NextKinds.{task_inside, is_next}
 use Rattle.vch_state.proofs.state.Core.next_kind.Goals as goal
 
 pub at-space-requires : goal.at-space-requires

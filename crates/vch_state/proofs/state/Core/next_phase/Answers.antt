@@ -1,4 +1,4 @@
-use Rattle.vch_state.proofs.PhaseEnds.{reached_phase}
+use Rattle.vch_state.proofs.phases.PhaseEnds.{reached_phase}
 use Rattle.vch_state.proofs.state.Core.next_phase.Goals as goal
 
 pub invariant_of-self : goal.invariant_of-self

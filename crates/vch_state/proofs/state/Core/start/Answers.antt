@@ -1,7 +1,7 @@
 use Rattle.std.proofs.Common.{◌∙◌, sym, ap, subst}
 use Rattle.vch_model.specs.declared.lists.Scenario.{Scenario}
 use Rattle.vch_model.specs.Scenarios.{IsLimited, line_count}
-use Rattle.vch_state.proofs.FromStart.{new_core, at_start, moved_state, moved_end}
+use Rattle.vch_state.proofs.starting.FromStart.{new_core, at_start, moved_state, moved_end}
 use Rattle.vch_state.proofs.state.Core.start.Goals as goal
 
 pub new-requires : goal.new-requires

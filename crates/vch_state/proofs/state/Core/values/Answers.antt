@@ -2,8 +2,8 @@ use Rattle.std.proofs.Common.{◌≡◌, ◌+◌, arith, length, subst}
 use Rattle.vch_machine.specs.State.{Machine}
 use Rattle.vch_state.specs.declared.parts.Parts.{Parts}
 use Rattle.vch_state.specs.Reached.{Stands}
-use Rattle.vch_state.proofs.FewHandles.{live_few}
-use Rattle.vch_state.proofs.LiveCounts.{values_are}
+use Rattle.vch_state.proofs.keys.FewHandles.{live_few}
+use Rattle.vch_state.proofs.keys.LiveCounts.{values_are}
 use Rattle.vch_state.proofs.state.Core.values.Goals as goal
 
 pub overflow_add-result : goal.overflow_add-result

@@ -1,0 +1,4 @@
+pub mod NamesLess
+pub mod SlotsLess
+pub mod Dropped
+pub mod DropEvent

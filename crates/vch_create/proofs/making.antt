@@ -1,0 +1,12 @@
+pub mod Flights
+pub mod MakeNext
+pub mod AskFacts
+pub mod MadeLive
+pub mod FreshLive
+pub mod MakeGives
+pub mod MakeCalls
+pub mod Receives
+pub mod MakeEvent
+pub mod MakeReceipt
+pub mod Loses
+pub mod LosesEvent

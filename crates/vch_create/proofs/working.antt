@@ -1,0 +1,10 @@
+pub mod WorkDeeds
+pub mod WorkMaps
+pub mod WorkNext
+pub mod WorkRecords
+pub mod WorkShares
+pub mod WorkKeys
+pub mod WorkReads
+pub mod WorkStands
+pub mod WorkShared
+pub mod WorkEvent

@@ -1,0 +1,3 @@
+pub mod AddedLines
+pub mod AddedPasts
+pub mod AddedRuns

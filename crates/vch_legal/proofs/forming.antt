@@ -1,0 +1,11 @@
+pub mod AskedAt
+pub mod CreateMakes
+pub mod Creates
+pub mod Evaluated
+pub mod Forming
+pub mod KeysThere
+pub mod MakeGoes
+pub mod RecordChanges
+pub mod RecordPlaces
+pub mod Records
+pub mod RunsEvaluated

@@ -1,0 +1,5 @@
+pub mod EachLine
+pub mod LastPhase
+pub mod LineSums
+pub mod PhaseCounts
+pub mod PhaseLines

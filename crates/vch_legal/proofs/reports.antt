@@ -1,0 +1,5 @@
+pub mod ReplyCodes
+pub mod ReportBytes
+pub mod ReportEntries
+pub mod RunBytes
+pub mod RunReports

@@ -1,0 +1,17 @@
+pub mod AskSpots
+pub mod BeginSpots
+pub mod ClaimMaps
+pub mod EventSpots
+pub mod ExitSpots
+pub mod FrameSpots
+pub mod LeaveSpots
+pub mod MakeSpots
+pub mod Places
+pub mod PlainEvents
+pub mod PutSpots
+pub mod ReferSpots
+pub mod Shapes
+pub mod SpotSteps
+pub mod StartFits
+pub mod TransferSpots
+pub mod WorkSpots

@@ -1,0 +1,9 @@
+pub mod AllGivenBack
+pub mod ChargedCalls
+pub mod Charges
+pub mod Conservation
+pub mod EntrySums
+pub mod Ledgers
+pub mod ReleasedSums
+pub mod ReportSums
+pub mod RunSums

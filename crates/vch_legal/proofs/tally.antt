@@ -1,0 +1,2 @@
+pub mod Burdens
+pub mod TallyKeeps

@@ -1,0 +1,5 @@
+pub mod OwnFrame
+pub mod OwnSteps
+pub mod OwnTask
+pub mod TaskItems
+pub mod TaskLists

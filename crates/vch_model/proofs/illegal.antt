@@ -1,0 +1,4 @@
+pub mod IllegalHistories
+pub mod Unwanted
+pub mod IllegalRows
+pub mod Unended

@@ -1,0 +1,2 @@
+pub mod TextsTwo
+pub mod TextsMore

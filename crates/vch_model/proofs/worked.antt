@@ -1,0 +1,11 @@
+pub mod WorkedHistories
+pub mod WorkedRefusalsWhole
+pub mod WorkedCountsWhole
+pub mod WorkedRecipesWhole
+pub mod WorkedTwoWhole
+pub mod WorkedLongWhole
+pub mod WorkedRecordsWhole
+pub mod WorkedKeysWhole
+pub mod WorkedListsWhole
+pub mod WorkedNamesWhole
+pub mod WorkedStarts

@@ -1,0 +1,5 @@
+pub mod Same
+pub mod Runs
+pub mod Wholes
+pub mod Loops
+pub mod CopyLoops

@@ -1,0 +1,4 @@
+pub mod Canons
+pub mod Texts
+pub mod OneAnswer
+pub mod Writables

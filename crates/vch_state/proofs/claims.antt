@@ -1,0 +1,4 @@
+pub mod Claims
+pub mod Expected
+pub mod OnClaims
+pub mod OneClaim

@@ -1,0 +1,4 @@
+pub mod Records
+pub mod Referring
+pub mod Refers
+pub mod RefersEvent

@@ -1,0 +1,5 @@
+pub mod OfTasks
+pub mod Placing
+pub mod CallsFound
+pub mod FromStart
+pub mod Loops
