@@ -4,7 +4,7 @@ ghost use Rattle.vch_model.specs.Lines.{is_task};
 ghost use Rattle.vch_model.specs.UserOnly.{IsUserOnly};
 ghost use Rattle.vch_state.specs.Plain.{frame_of};
 ghost use Rattle.vch_state.specs.Reached.{Reached, IsNext, value_kind};
-ghost use Rattle.vch_create.specs.Makes.{MakeAnswers, HasRoom, IsMadeEntry, IsRoomier};
+ghost use Rattle.vch_create.specs.Demands.{MakeAnswers, HasRoom, IsMadeEntry, IsRoomier};
 
 use crate::flying::flying;
 use crate::question::{content_at, read_question};

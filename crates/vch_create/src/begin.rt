@@ -7,7 +7,7 @@ ghost use Rattle.vch_state.specs.Plain.{frame_of, begun_of};
 ghost use Rattle.vch_state.specs.Reached.{Reached, Follows, IsNext};
 ghost use Rattle.vch_model.specs.UserOnly.{IsUserOnly};
 ghost use Rattle.vch_state.specs.declared.frame.Claiming.{Claiming};
-ghost use Rattle.vch_create.specs.Begins.{IsCreateOf, is_answered, answer, demand_of};
+ghost use Rattle.vch_create.specs.Beginnings.{IsCreateOf, is_answered, answer, demand_of};
 
 use crate::give_up::begin_drop;
 use crate::refuse::created;

@@ -1,6 +1,6 @@
 ghost use Rattle.std.specs.Prelude.{◌≡◌, ◌≤◌, length, take};
 ghost use Rattle.vch_state.specs.Pictures.{receipts_of};
-ghost use Rattle.vch_create.specs.Makes.{receipts_in};
+ghost use Rattle.vch_create.specs.Demands.{receipts_in};
 
 use vch_base::Key;
 use vch_state::{Frame, Frames};

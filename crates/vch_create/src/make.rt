@@ -6,7 +6,7 @@ ghost use Rattle.vch_model.specs.UserOnly.{IsUserOnly};
 ghost use Rattle.vch_base.specs.Keyed.{with_key};
 ghost use Rattle.vch_state.specs.Plain.{frame_of, with_frame_of};
 ghost use Rattle.vch_state.specs.Reached.{Reached, IsNext, MayFollow, value_kind};
-ghost use Rattle.vch_create.specs.Makes.{HasRoom, IsLoss, IsMadeEntry};
+ghost use Rattle.vch_create.specs.Demands.{HasRoom, IsLoss, IsMadeEntry};
 
 use crate::asking::{ask, prepare};
 use crate::refuse::{out_of_memory, refuse};

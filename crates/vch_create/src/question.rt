@@ -10,7 +10,7 @@ ghost use Rattle.vch_state.specs.Shape as shape;
 ghost use Rattle.vch_state.specs.Reached.{Reached, IsNext, value_kind};
 ghost use Rattle.vch_create.specs.Works as works;
 ghost use Rattle.vch_create.specs.Works.{NamesAreThere};
-ghost use Rattle.vch_create.specs.Makes.{IsQuestion, previous_in};
+ghost use Rattle.vch_create.specs.Demands.{IsQuestion, previous_in};
 
 use crate::record::voucher_of;
 use vch_base::Key;

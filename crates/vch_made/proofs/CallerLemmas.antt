@@ -1,6 +1,6 @@
 -- What a crate above may cite: counts that were added and sets that were united, slot by slot.
 use Rattle.std.proofs.Common.{◌≡◌, ℕ, zero, suc, ◌+◌, Bool, true, false, ◌||◌, List, [], ◌∷◌, get_or, length, sym, refl, ap, arith}
-use Rattle.vch_made.specs.Answers.{slot_by_slot, counts_added, marks_united}
+use Rattle.vch_made.specs.SeatSteps.{slot_by_slot, counts_added, marks_united}
 
 module _ {A : Type 0} (f : A → A → A) where
   slots-at : (d : A) → ((x : A) → f d x ≡ x) → ((x : A) → f x d ≡ x) → (xs ys : List A) (j : ℕ) → get_or (slot_by_slot f xs ys) j d ≡ f (get_or xs j d) (get_or ys j d)

@@ -1,7 +1,7 @@
 -- What a seat keeps at run time goes with its view after it took another one in.
 use Rattle.std.proofs.Common.{ap, sym, ◌∙◌, ℕ, ◌<◌, ◌≤◌, ◌≡◌, ◌+◌, arith, length, List, Bool, get_or, subst}
 use Rattle.atomic_table.specs.Table.{Me}
-use Rattle.vch_made.specs.Answers.{counts_added, marks_united}
+use Rattle.vch_made.specs.SeatSteps.{counts_added, marks_united}
 use Rattle.vch_made.specs.Plays.{both_views, IsSound}
 use Rattle.vch_made.specs.Fits.{IsWide, SeatFits}
 use Rattle.vch_made.specs.declared.view.View.{View}

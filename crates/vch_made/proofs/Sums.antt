@@ -6,7 +6,7 @@ use mathlib.Core.Logic.{dite}
 use mathlib.Core.Option.{some, some-injective, some-ne-none}
 use native.Mathlib.Decide.{dec_le}
 use lib.ListN.{get_elem?}
-use Rattle.vch_made.specs.Answers.{counts_added}
+use Rattle.vch_made.specs.SeatSteps.{counts_added}
 use Rattle.vch_made.specs.Counting.{bit}
 
 module _ {X : Type 0} where

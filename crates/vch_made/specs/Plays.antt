@@ -2,7 +2,7 @@
 use Rattle.std.specs.Prelude.{◌≡◌, ◌≢◌, ℕ, suc, ◌+◌, ◌-◌, ◌<◌, ◌≤◌, [], true, false, length, sum, replicate, slice_index, slice_index_or, slice_set}
 use Rattle.atomic_table.specs.Table.{Me, Step}
 use Rattle.vch_made.specs.Seats.{released_mark}
-use Rattle.vch_made.specs.Answers.{counts_added, marks_united}
+use Rattle.vch_made.specs.SeatSteps.{counts_added, marks_united}
 use Rattle.vch_made.specs.Counting.{counts_of}
 use Rattle.vch_made.specs.declared.view.View.{View}
 

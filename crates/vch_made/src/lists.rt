@@ -1,5 +1,5 @@
 ghost use Rattle.std.specs.Prelude.{◌≡◌, ◌+◌, ◌<◌, ℕ, length, false, replicate, slice_index, IfOk};
-ghost use Rattle.vch_made.specs.Answers.{counts_added, marks_united};
+ghost use Rattle.vch_made.specs.SeatSteps.{counts_added, marks_united};
 
 use std::alloc::Global;
 use vch_base::NoMemory;

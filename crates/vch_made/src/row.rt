@@ -1,6 +1,6 @@
 ghost use Rattle.std.specs.Prelude.{◌≡◌, ◌≤◌, ◌<◌, ◌+◌, ◌-◌, ℕ, true, false, replicate, IfOk, IfErr};
 ghost use Rattle.vch_made.specs.Seats.{Row, Seated, own_at, dead_at, new_seat, most_makes};
-ghost use Rattle.vch_made.specs.Answers.{CountsOneStep, MakeGives, ReleaseGives, seat_of_both, NoneDeadIsHeld, FreedAllDead};
+ghost use Rattle.vch_made.specs.SeatSteps.{CountsOneStep, MakeGives, ReleaseGives, seat_of_both, NoneDeadIsHeld, FreedAllDead};
 ghost use Rattle.vch_made.specs.declared.row.Make.TheVariants as make;
 ghost use Rattle.vch_made.specs.declared.row.Rel.TheVariants as rel;
 

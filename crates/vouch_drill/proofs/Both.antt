@@ -3,7 +3,7 @@ use Rattle.std.proofs.Common.{◌≡◌, ◌∙◌, ◌||◌, ℕ, zero, suc, Bo
 use mathlib.Core.Logic.{dite}
 use native.Mathlib.Decide.{dec_le}
 use Rattle.vch_made.specs.Seats.{Row, Seated, dead_at, freed_at}
-use Rattle.vch_made.specs.Answers.{seat_of_both, FreedAllDead}
+use Rattle.vch_made.specs.SeatSteps.{seat_of_both, FreedAllDead}
 use Rattle.vch_made.proofs.CallerLemmas.{added-at, united-at}
 use Rattle.vouch_drill.specs.Counts.{slot_count, HoldsFirst, KnowsDead, HasMade}
 

@@ -1,3 +1,3 @@
 pub mod Words
 pub mod Counts
-pub mod Text
+pub mod Summaries

@@ -1,7 +1,7 @@
 ghost use Rattle.std.specs.Prelude.{◌≡◌, ◌≤◌, ◌⊎◌, ◌↔◌, ℕ, IfOk, map, string_bytes};
 ghost use Rattle.vch_base.specs.Stream.{Extends, Rose, WritesPrefix};
 ghost use Rattle.vouch_drill.specs.Words.{most_rounds, AsksMade, IsNoForm};
-ghost use Rattle.vouch_drill.specs.Text.{made_text};
+ghost use Rattle.vouch_drill.specs.Summaries.{made_text};
 
 use crate::made::count_rounds;
 use crate::text::counts_text;

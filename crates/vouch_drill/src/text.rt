@@ -1,5 +1,5 @@
 ghost use Rattle.std.specs.Prelude.{◌≡◌, ◌++◌, OnOk, IfOk};
-ghost use Rattle.vouch_drill.specs.Text.{line, counts_text};
+ghost use Rattle.vouch_drill.specs.Summaries.{line, counts_text};
 
 use crate::counts::Counts;
 use std::alloc::Global;

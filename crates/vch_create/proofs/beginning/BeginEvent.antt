@@ -37,7 +37,7 @@ use Rattle.vch_state.specs.Stands.{StandsFor}
 use Rattle.vch_state.specs.Reached.{plain_of, parts_in, IsState, IsEvent, IsNext, Follows, Reached}
 use Rattle.vch_model.specs.UserOnly.{IsUserOnly, AsksUserOnly}
 use Rattle.vch_state.proofs.CallerLemmas.{own_frame, in_parts, from_reached, map_empty}
-use Rattle.vch_create.specs.Begins.{IsCreateOf, is_answered, answer}
+use Rattle.vch_create.specs.Beginnings.{IsCreateOf, is_answered, answer}
 use Rattle.vch_create.proofs.beginning.BeginMachine.{counted, begins, begun_here, framed_here, answered}
 use Rattle.vch_create.proofs.beginning.Begun.{Fresh, new_parts, new_machine, begun_stands}
 use Rattle.vch_create.proofs.beginning.CallsUser.{call_within, user_call}

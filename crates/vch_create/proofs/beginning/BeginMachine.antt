@@ -13,7 +13,7 @@ use Rattle.vch_machine.specs.Frames.{with_frame}
 use Rattle.vch_machine.specs.Beginning.{begun_one, store_reply, begin_line, begin_call}
 use Rattle.vch_machine.specs.Events.{event, event_of}
 use Rattle.vch_machine.specs.Next.{next_kind, nth_call}
-use Rattle.vch_create.specs.Begins.{is_answered, answer}
+use Rattle.vch_create.specs.Beginnings.{is_answered, answer}
 
 module _ (sc : Scenario) (m : Machine) (t : ℕ) where
   -- the state in which the call is counted as begun

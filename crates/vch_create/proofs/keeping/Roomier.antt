@@ -21,7 +21,7 @@ use Rattle.vch_state.specs.Stands.{StandsFor, KeyStands, all_live, owed}
 use Rattle.vch_state.specs.Bounds.{in_all, unanswered_in}
 use Rattle.vch_state.specs.Reached.{plain_of, IsState, IsEnd, Reached, Stands}
 use Rattle.vch_state.proofs.CallerLemmas.{cells_same, task_stays}
-use Rattle.vch_create.specs.Makes.{IsRoomier}
+use Rattle.vch_create.specs.Demands.{IsRoomier}
 
 -- entries with more places fit what they fitted
 pub more_places : (p : Picture) (old new : Entries) (kept : Kept) → new.slots ≡ old.slots → old.spare ≤ new.spare → picture.Stands p old kept → picture.Stands p new kept

@@ -34,8 +34,8 @@ use Rattle.vch_state.specs.Stands.{StandsFor, IsLiving}
 use Rattle.vch_state.specs.Reached.{plain_of, parts_in, IsNext, Stands, value_kind}
 use Rattle.vch_state.proofs.CallerLemmas.{there_of, at_key, refers_bound}
 use Rattle.vch_create.specs.Works.{voucher_of}
-use Rattle.vch_create.specs.Makes as makes
-use Rattle.vch_create.specs.Makes.{IsQuestion, IsAsked, MakeAnswers, receipts_in, previous_in}
+use Rattle.vch_create.specs.Demands as makes
+use Rattle.vch_create.specs.Demands.{IsQuestion, IsAsked, MakeAnswers, receipts_in, previous_in}
 use Rattle.vch_create.proofs.making.Flights.{parts_receipts, expected_few}
 use Rattle.vch_create.proofs.making.MakeNext.{IsAsking, Makes}
 use Rattle.vch_create.proofs.working.WorkNext.{state_of, names_same, task_names}

@@ -11,7 +11,7 @@ use Rattle.vch_state.specs.Plain.{Part, resting}
 use Rattle.vch_state.specs.Pictures.{receipts_of, receipt_of, part_expects}
 use Rattle.vch_base.specs.Keys.{same_key}
 use Rattle.vch_state.specs.Reached.{parts_in}
-use Rattle.vch_create.specs.Makes.{receipts_in}
+use Rattle.vch_create.specs.Demands.{receipts_in}
 
 one_at_most : (k : Key) (o : Option Frame) → length (receipts_of k o) ≤ 1
 one_at_most k None = omega arith

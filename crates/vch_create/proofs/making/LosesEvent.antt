@@ -29,7 +29,7 @@ use Rattle.vch_state.specs.Stands.{StandsFor}
 use Rattle.vch_state.specs.Moves.{PutsIndex, let_at}
 use Rattle.vch_state.specs.Reached.{plain_of, parts_in, IsState, IsNext, Reached, Stands, value_kind}
 use Rattle.vch_state.proofs.CallerLemmas.{put_taken, own_frame, in_parts, in_frames, room_for, taken_frame}
-use Rattle.vch_create.specs.Makes.{IsLoss}
+use Rattle.vch_create.specs.Demands.{IsLoss}
 use Rattle.vch_create.proofs.making.Loses.{then_parts, then_machine, lost_stands}
 use Rattle.vch_create.proofs.making.MakeCalls.{same_frame, record_there}
 use Rattle.vch_create.proofs.making.MakeNext.{IsAsking, asking, Makes, makes_seen}

@@ -42,7 +42,7 @@ use Rattle.vch_state.specs.Plain.{frame_of, begun_of}
 use Rattle.vch_state.specs.Reached.{plain_of, parts_in, IsNext, Reached, Stands, value_kind}
 use Rattle.vch_create.specs.declared.question.Question.{Question}
 use Rattle.vch_create.proofs.refusals.Codes.{own_refusal}
-use Rattle.vch_create.specs.Makes.{MakeAnswers, HasRoom, IsAsked, IsMadeEntry, IsQuestion, receipts_in}
+use Rattle.vch_create.specs.Demands.{MakeAnswers, HasRoom, IsAsked, IsMadeEntry, IsQuestion, receipts_in}
 use Rattle.vch_create.proofs.making.MakeNext.{asking, makes_seen}
 use Rattle.vch_create.proofs.making.AskFacts.{flights_are, flights_few, handles_few, made_few, previous_there, previous_is_live, long_is, reply, reply_is, asked_is}
 use Rattle.vch_create.proofs.working.WorkNext.{reached_state, state_of, frames_range}

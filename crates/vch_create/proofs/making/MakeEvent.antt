@@ -28,7 +28,7 @@ use Rattle.vch_state.specs.Shape.{Indices}
 use Rattle.vch_state.specs.Reached.{plain_of, IsState, IsEventBy, IsNext, MayFollow, Reached, Stands, value_kind}
 use Rattle.vch_create.specs.Formed.{is_forming}
 use Rattle.vch_create.specs.Refusals.{IsRefusal}
-use Rattle.vch_create.specs.Makes.{MakeAnswers, IsAsked, IsLoss, IsRoomier}
+use Rattle.vch_create.specs.Demands.{MakeAnswers, IsAsked, IsLoss, IsRoomier}
 use Rattle.vch_create.proofs.making.MakeGives as gives
 use Rattle.vch_create.proofs.making.MakeGives.{nothing_is, refused_is, memory_is, IsValue, value_is}
 use Rattle.vch_create.proofs.making.MakeNext.{IsAsking, asking, Makes, makes_seen, next_moves}

@@ -27,7 +27,7 @@ use Rattle.vch_state.specs.Plain.{frame_of}
 use Rattle.vch_state.specs.Shape.{Indices}
 use Rattle.vch_state.specs.Reached.{IsNext, Stands, value_kind}
 use Rattle.vch_state.proofs.CallerLemmas.{event_is}
-use Rattle.vch_create.specs.Makes.{IsAsked}
+use Rattle.vch_create.specs.Demands.{IsAsked}
 use Rattle.vch_create.proofs.making.MakeNext.{IsAsking, Makes, next_in}
 use Rattle.vch_create.proofs.keeping.Quiet.{forming_machine}
 

@@ -44,7 +44,7 @@ use Rattle.vch_state.specs.Bounds.{Spent, in_all, unanswered_in, begun_in, open_
 use Rattle.vch_state.specs.Stands.{StandsFor, IsLiving}
 use Rattle.vch_state.specs.Reached.{plain_of, parts_in, IsState, IsEventBy, IsNext, MayFollow, Reached, Stands, value_kind}
 use Rattle.vch_state.proofs.CallerLemmas.{put_taken, own_frame, in_parts, in_frames, taking_frame, framed, sum_bounded}
-use Rattle.vch_create.specs.Makes.{MakeAnswers, HasRoom, IsAsked, IsMadeEntry}
+use Rattle.vch_create.specs.Demands.{MakeAnswers, HasRoom, IsAsked, IsMadeEntry}
 use Rattle.vch_create.proofs.making.AskFacts.{reply, asked_is, W}
 use Rattle.vch_create.proofs.making.FreshLive.{found_handle, absent_handle, fresh_is, free_is, used_is, used_few, free_handle, living_again, living_new, stored, absent_previous, tasks_given}
 use Rattle.vch_create.proofs.making.MadeLive.{IsFree, count_again, live_again, count_new, length_new}

@@ -21,7 +21,7 @@ use Rattle.vch_create.specs.declared.change.Change.{Change}
 use Rattle.vch_create.specs.declared.change.Deed.{Deed}
 use Rattle.vch_create.specs.declared.change.Deed.TheVariants as deeds
 use Rattle.vch_create.specs.declared.record.Record.{Record}
-use Rattle.vch_create.specs.Makes.{IsOwnRefusal}
+use Rattle.vch_create.specs.Demands.{IsOwnRefusal}
 use Rattle.vch_create.specs.Refusals.{IsOther}
 use Rattle.vch_create.specs.Works as works
 use Rattle.vch_create.proofs.making.MakeGives.{refused_is}

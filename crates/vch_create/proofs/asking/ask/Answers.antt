@@ -1,7 +1,7 @@
 use Rattle.std.proofs.Common.{◌≤◌, ◌∙◌, sym, ap, subst, length, take}
 use Rattle.vch_base.specs.declared.key.Key.TheVariants as keys
 use Rattle.vch_model.specs.declared.lists.Scenario.{Scenario}
-use Rattle.vch_create.specs.Makes.{receipts_in}
+use Rattle.vch_create.specs.Demands.{receipts_in}
 use Rattle.vch_create.proofs.making.MakeCalls.{tasks_few, tasks_there, slots_few, counts_few, flying_few, content_there, asked_there, asked_live, ask_answers}
 use Rattle.vch_create.proofs.asking.ask.Goals as goal
 

@@ -1,7 +1,7 @@
 use Rattle.std.proofs.Common.{◌∙◌, ◌+◌, sym, ap}
 use Rattle.vch_state.specs.declared.frames.Working.{Working}
 use Rattle.vch_machine.specs.Next.{nth_call}
-use Rattle.vch_create.specs.Begins.{demand_of}
+use Rattle.vch_create.specs.Beginnings.{demand_of}
 use Rattle.vch_create.proofs.beginning.BeginCalls.{next_fits, no_other}
 use Rattle.vch_create.proofs.beginning.BeginEvent.{begin_range}
 use Rattle.vch_create.proofs.begin.begin.Goals as goal

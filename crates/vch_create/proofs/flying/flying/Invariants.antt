@@ -1,5 +1,5 @@
 use Rattle.std.proofs.Common.{◌≡◌, ◌≤◌, length, take}
-use Rattle.vch_create.specs.Makes.{receipts_in}
+use Rattle.vch_create.specs.Demands.{receipts_in}
 use Rattle.vch_create.proofs.flying.flying.Given as goal
 
 abbrev pub invariant-loop-i : goal.invariant-loop-i

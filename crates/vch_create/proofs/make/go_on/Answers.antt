@@ -2,7 +2,7 @@ use Rattle.std.proofs.Common.{◌<◌, ◌≤◌, ◌∙◌, sym, ap, refl, subs
 use Rattle.std.specs.Prelude.{Ok, Err}
 use Rattle.vch_value.specs.declared.flight.Made.TheVariants as made
 use Rattle.vch_state.specs.declared.parts.Parts.{Parts}
-use Rattle.vch_create.specs.Makes.{MakeAnswers}
+use Rattle.vch_create.specs.Demands.{MakeAnswers}
 use Rattle.vch_create.proofs.making.MakeCalls.{handle_few, past_few}
 use Rattle.vch_create.proofs.making.MakeEvent.{roomier_next, roomier_forms, wanted_follows, refused_follows, refused_roomier, memory_roomier, nothing_roomier, nothing_follows}
 use Rattle.vch_create.proofs.making.MakeReceipt.{again_given, fresh_given}

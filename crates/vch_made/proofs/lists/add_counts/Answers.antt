@@ -1,6 +1,6 @@
 use Rattle.std.proofs.Common.{◌∙◌, sym, arith}
 use Rattle.std.proofs.lemmas.Grind.{same_number_lists}
-use Rattle.vch_made.specs.Answers.{counts_added}
+use Rattle.vch_made.specs.SeatSteps.{counts_added}
 use Rattle.vch_made.proofs.CallerLemmas.{added-at, length-added}
 use Rattle.vch_made.proofs.lists.add_counts.Goals as goal
 

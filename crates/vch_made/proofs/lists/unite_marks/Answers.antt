@@ -1,5 +1,5 @@
 use Rattle.std.proofs.Common.{◌∙◌, sym, arith, false, ext_get_or}
-use Rattle.vch_made.specs.Answers.{marks_united}
+use Rattle.vch_made.specs.SeatSteps.{marks_united}
 use Rattle.vch_made.proofs.CallerLemmas.{united-at, length-united}
 use Rattle.vch_made.proofs.lists.unite_marks.Goals as goal
 

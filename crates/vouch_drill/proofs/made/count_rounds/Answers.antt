@@ -1,6 +1,6 @@
 use Rattle.std.proofs.Common.{◌≡◌, ◌+◌, ◌*◌, ap, subst, sym, arith}
 use Rattle.vch_made.specs.Seats.{Seated}
-use Rattle.vch_made.specs.Answers.{FreedAllDead}
+use Rattle.vch_made.specs.SeatSteps.{FreedAllDead}
 use Rattle.vouch_drill.specs.Counts.{HoldsFirst}
 use Rattle.vouch_drill.proofs.Both.{left_none, right_none, both_hold}
 use Rattle.vouch_drill.proofs.made.count_rounds.Goals as goal

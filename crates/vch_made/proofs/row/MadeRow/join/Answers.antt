@@ -1,6 +1,6 @@
 use Rattle.std.proofs.Common.{ap, sym, ◌∙◌, subst, ℕ, ◌≡◌, ◌+◌, arith, length, List, Bool}
 use Rattle.atomic_table.specs.Table.{Me}
-use Rattle.vch_made.specs.Answers.{marks_united, seat_of_both}
+use Rattle.vch_made.specs.SeatSteps.{marks_united, seat_of_both}
 use Rattle.vch_made.specs.Fits.{SeatFits}
 use Rattle.vch_made.specs.Seats.{Row, Seated}
 use Rattle.vch_made.specs.declared.view.View.{View}
