@@ -44,7 +44,7 @@ pub fn start_fits()
 /// A law: a state fits where it meets the facts, and what their proof keeps beside them: that few handles are to be let go,
 /// that sends under way are to tasks, that exits form nothing, that values belong to their keys, that Made entries have
 /// numbers of their own, and that questions are paid for by references.
-#[tactic(auto, using(crate::proofs::FactsApart::facts_of, crate::proofs::FactsApart::beside_of, crate::proofs::FactsApart::fits_both))]
+#[tactic(auto, using(crate::proofs::facts::FactsApart::facts_of, crate::proofs::facts::FactsApart::beside_of, crate::proofs::facts::FactsApart::fits_both))]
 pub fn facts_apart()
     ensures facts { (sc : Scenario) (m : Machine) → Fits sc m → Facts m }
     ensures beside { (sc : Scenario) (m : Machine) → Fits sc m → Beside sc m }
@@ -69,7 +69,7 @@ pub fn run_fits()
 {}
 
 /// A law: at every moment of every run, no more questions were asked than references were taken.
-#[tactic(auto, using(crate::proofs::Keeps::asks_at_most))]
+#[tactic(auto, using(crate::proofs::facts::Keeps::asks_at_most))]
 pub fn asks_are_at_most_refers()
     ensures { (sc : Scenario) (moves : List Move) (n : Machine) → run_from_start sc moves ≡ Some n
         → n.tally.asks ≤ n.tally.refers }
@@ -103,28 +103,28 @@ pub fn by_seed_is_a_run()
 {}
 
 /// A law: after every legal history, the assertions that all tasks hold add up to those that all tasks gave.
-#[tactic(auto, using(crate::proofs::Conservation::held_is_out))]
+#[tactic(auto, using(crate::proofs::sums::Conservation::held_is_out))]
 pub fn held_is_out()
     ensures { (sc : Scenario) (past : List Entry) → LegalPast sc past
         → each_task (held sc past) (length sc.flags) ≡ each_task (out sc past) (length sc.flags) }
 {}
 
 /// A law: after every legal history, the accepted charges add up to all ledgers and all that is due on live accounts.
-#[tactic(auto, using(crate::proofs::Ledgers::charges_are_kept))]
+#[tactic(auto, using(crate::proofs::sums::Ledgers::charges_are_kept))]
 pub fn charges_are_kept()
     ensures { (sc : Scenario) (past : List Entry) → LegalPast sc past
         → accepted sc past ≡ each_task (ledger sc past) (length sc.flags) + dues sc past }
 {}
 
 /// A law: at every moment of every run, the assertions that all tasks hold add up to those that all tasks gave.
-#[tactic(auto, using(crate::proofs::RunSums::run_held_is_out))]
+#[tactic(auto, using(crate::proofs::sums::RunSums::run_held_is_out))]
 pub fn held_is_out_in_every_run()
     ensures { (sc : Scenario) (moves : List Move) (n : Machine) → run_from_start sc moves ≡ Some n
         → each_task (held sc n.past) (length sc.flags) ≡ each_task (out sc n.past) (length sc.flags) }
 {}
 
 /// A law: at every moment of every run, the accepted charges add up to all ledgers and all that is due on live accounts.
-#[tactic(auto, using(crate::proofs::RunSums::run_charges_are_kept))]
+#[tactic(auto, using(crate::proofs::sums::RunSums::run_charges_are_kept))]
 pub fn charges_are_kept_in_every_run()
     ensures { (sc : Scenario) (moves : List Move) (n : Machine) → run_from_start sc moves ≡ Some n
         → accepted sc n.past ≡ each_task (ledger sc n.past) (length sc.flags) + dues sc n.past }
@@ -144,7 +144,7 @@ pub fn every_run_is_bounded()
 {}
 
 /// A law: what is left at the start is bounded by the number of calls and of phases.
-#[tactic(auto, using(crate::proofs::LineSums::start_few))]
+#[tactic(auto, using(crate::proofs::lines::LineSums::start_few))]
 pub fn start_is_bounded()
     ensures { (sc : Scenario) → work_left sc (start sc) ≤ largest_call * line_count sc.phases + length sc.phases }
 {}
@@ -164,7 +164,7 @@ pub fn by_seed_ends()
 /// A law: what is next can happen, so the laws over runs are not empty. In every state that stands, the next event of a
 /// task can happen, whether memory runs out in it or not, and until the last phase has ended some move can. An end of a
 /// phase can happen where all tasks are at rest and a phase is left.
-#[tactic(auto, using(crate::proofs::Happening::next_happens, crate::proofs::Happening::phase_ends, crate::proofs::Happening::some_move))]
+#[tactic(auto, using(crate::proofs::runs::Happening::next_happens, crate::proofs::runs::Happening::phase_ends, crate::proofs::runs::Happening::some_move))]
 pub fn next_events_can_happen()
     ensures event_happens { (sc : Scenario) (want : Bool) (t : ℕ) (m : Machine) (kind : Kind) → Ties sc m
         → is_task sc t ≡ true → next_kind sc m t ≡ Some kind → is_some (event sc want m t) ≡ true }
@@ -203,7 +203,7 @@ pub fn all_is_given_back()
 /// A law: what a legal history tells in its report has a text: each entry is one that the version's text has, and each total
 /// and count is in its range. A legal history may have made user data of numbers that are no bytes, or be too long: every run
 /// has bytes alone, and fewer than 2^32 entries, so its report always has a text.
-#[tactic(auto, using(crate::proofs::RunReports::legal_reportable))]
+#[tactic(auto, using(crate::proofs::reports::RunReports::legal_reportable))]
 pub fn legal_reports_are_well_formed()
     ensures legal { (sc : Scenario) (history : List Entry) → IsLimited sc → Legal history sc → length history < 2 ^ 32
         → AllByRecursion IsByteEntry history → IsReportable sc history }
@@ -215,7 +215,7 @@ pub fn legal_reports_are_well_formed()
 /// scenario with one line more at the end of that phase, with the same states, and a legal history is one of it, with the same
 /// store. The longer scenario is within the limits where the line is a call of one of its tasks and of its version, and there
 /// is room for one more.
-#[tactic(auto, using(crate::proofs::AddedRuns::run_added, crate::proofs::AddedRuns::legal_added, crate::proofs::AddedRuns::store_added))]
+#[tactic(auto, using(crate::proofs::added::AddedRuns::run_added, crate::proofs::added::AddedRuns::legal_added, crate::proofs::added::AddedRuns::store_added))]
 pub fn lines_are_added()
     ensures run { (sc : Scenario) (line : Line) (moves : List Move) (n : Machine) → run_from_start sc moves ≡ Some n
         → has_ended sc n ≡ false → run_from_start (with_added sc line) moves ≡ Some n }

@@ -15,7 +15,7 @@ ghost use Rattle.vch_model.specs.Versions.{KeepVersion};
 
 /// A law that computes: each history that is written beside a worked scenario is a whole one of it, and two of them have
 /// these texts.
-#[tactic(auto, using(crate::proofs::WorkedHistories::are_whole, crate::proofs::WorkedHistories::texts))]
+#[tactic(auto, using(crate::proofs::worked::WorkedHistories::are_whole, crate::proofs::worked::WorkedHistories::texts))]
 pub fn worked_histories()
     ensures whole { AreWhole }
     ensures texts { Texts }
@@ -40,13 +40,13 @@ pub fn worked_starts()
 {}
 
 /// A law that computes: each of these histories is legal, and not whole.
-#[tactic(auto, using(crate::proofs::Unended::are_unended))]
+#[tactic(auto, using(crate::proofs::illegal::Unended::are_unended))]
 pub fn unended_histories()
     ensures { AreUnended }
 {}
 
 /// A law that computes: no call of these may be answered out of memory.
-#[tactic(auto, using(crate::proofs::Unwanted::are_unwanted))]
+#[tactic(auto, using(crate::proofs::illegal::Unwanted::are_unwanted))]
 pub fn unwanted_calls()
     ensures { AreUnwanted }
 {}
@@ -58,20 +58,20 @@ pub fn managed_values()
 {}
 
 /// A law: no history goes on with the entry that is written behind it.
-#[tactic(auto, using(crate::proofs::IllegalHistories::are_illegal, crate::proofs::IllegalRows::are_refused))]
+#[tactic(auto, using(crate::proofs::illegal::IllegalHistories::are_illegal, crate::proofs::illegal::IllegalRows::are_refused))]
 pub fn illegal_histories()
     ensures illegal { AreIllegal }
     ensures refused { AreRefused }
 {}
 
 /// A law that computes: two reports and a canonical scenario of version 2, and which queue limits a task line may write.
-#[tactic(auto, using(crate::proofs::TextsTwo::texts_two))]
+#[tactic(auto, using(crate::proofs::texts::TextsTwo::texts_two))]
 pub fn texts_of_version_2()
     ensures { TextsTwo }
 {}
 
 /// A law that computes: three more reports, and a canonical scenario with each call of version 1 and each flag.
-#[tactic(auto, using(crate::proofs::TextsMore::texts_more))]
+#[tactic(auto, using(crate::proofs::texts::TextsMore::texts_more))]
 pub fn more_texts()
     ensures { TextsMore }
 {}

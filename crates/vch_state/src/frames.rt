@@ -66,7 +66,7 @@ impl Frames {
     }
 
     /// Takes a task's frame out; the task has none then.
-    #[tactic(auto, using(crate::proofs::Numbered::as_many))]
+    #[tactic(auto, using(crate::proofs::framing::Numbered::as_many))]
     pub fn take(&mut self, task: u32) -> Option<Frame>
         requires task { (0 < task) × (task ≤ length self.old) }
         ensures frame { result ≡ frame_of self.old task }
