@@ -5,6 +5,9 @@ pub use Rattle.vch_legal.proofs.spots.AskSpots.{without_here, without_other}
 pub use Rattle.vch_legal.proofs.store.AtRest.{Rests, task_rests, task_of}
 pub use Rattle.vch_legal.proofs.bounds.Bounds.{move_lowers, run_bounded}
 pub use Rattle.vch_legal.proofs.facts.Choices.{not_true, or_left, or_right}
+pub use Rattle.vch_legal.proofs.sums.AmountEntries.{phase_uncounted, gone_uncounted, lost_uncounted, refused_uncounted, call_uncounted}
+pub use Rattle.vch_legal.proofs.sums.AmountEntries.{released_amount, made_amount, other_made, made_amounts, KeepAmounts}
+pub use Rattle.vch_legal.proofs.sums.AmountEntries.{extern_amount, extern_ledger, account_amount, account_ledger, own_amount, own_ledger}
 pub use Rattle.vch_legal.proofs.sums.Conservation.{task_range}
 pub use Rattle.vch_legal.proofs.lines.EachLine.{line_has}
 pub use Rattle.vch_legal.proofs.forming.Forming.{rest_of, LiveAt}

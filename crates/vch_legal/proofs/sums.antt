@@ -1,4 +1,5 @@
 pub mod AllGivenBack
+pub mod AmountEntries
 pub mod ChargedCalls
 pub mod Charges
 pub mod Conservation

@@ -7,3 +7,4 @@ pub mod GivenBack
 pub mod Left
 pub mod Reports
 pub mod Tie
+pub mod ValueAmounts
