@@ -5,6 +5,8 @@ pub use Rattle.vch_legal.proofs.spots.AskSpots.{without_here, without_other}
 pub use Rattle.vch_legal.proofs.store.AtRest.{Rests, task_rests, task_of}
 pub use Rattle.vch_legal.proofs.bounds.Bounds.{move_lowers, run_bounded}
 pub use Rattle.vch_legal.proofs.facts.Choices.{not_true, or_left, or_right}
+pub use Rattle.vch_legal.proofs.sums.AcceptedCalls.{IsExtern, extern_done, IsCharge, charge_done}
+pub use Rattle.vch_legal.proofs.sums.MadeEntries.{made_value}
 pub use Rattle.vch_legal.proofs.sums.AmountEntries.{phase_uncounted, gone_uncounted, lost_uncounted, refused_uncounted, call_uncounted}
 pub use Rattle.vch_legal.proofs.sums.AmountEntries.{released_amount, made_amount, other_made, made_amounts, KeepAmounts}
 pub use Rattle.vch_legal.proofs.sums.AmountEntries.{extern_amount, extern_ledger, account_amount, account_ledger, own_amount, own_ledger}

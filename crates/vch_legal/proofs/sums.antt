@@ -1,3 +1,4 @@
+pub mod AcceptedCalls
 pub mod AllGivenBack
 pub mod AmountEntries
 pub mod ChargedCalls
@@ -5,6 +6,7 @@ pub mod Charges
 pub mod Conservation
 pub mod EntrySums
 pub mod Ledgers
+pub mod MadeEntries
 pub mod ReleasedSums
 pub mod ReportSums
 pub mod RunSums
