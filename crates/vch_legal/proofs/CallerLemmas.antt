@@ -27,6 +27,7 @@ pub use Rattle.vch_legal.proofs.spots.PutSpots.{handles_eq}
 pub use Rattle.vch_legal.proofs.forming.RecordPlaces.{record_place, record_long, record_inside, asks_behind, record_rest}
 pub use Rattle.vch_legal.proofs.forming.Records.{voucher_seen}
 pub use Rattle.vch_legal.proofs.steps.Refusals.{names_seen}
+pub use Rattle.vch_legal.proofs.reports.ReportBytes.{no_bytes, bytes_joined, word_bytes, spelling_bytes}
 pub use Rattle.vch_legal.proofs.reports.RunReports.{legal_reportable, run_reportable, all_reversed}
 pub use Rattle.vch_legal.proofs.runs.Runs.{reached_stands, run_whole}
 pub use Rattle.vch_legal.proofs.forming.RunsEvaluated.{run_evaluated}

@@ -33,18 +33,18 @@ use Rattle.vch_legal.proofs.store.StoreSteps.{StoreFits}
 
 -- Bytes.
 
-no_bytes : IsBytes []
+pub no_bytes : IsBytes []
 no_bytes i = omega arith
 
 one_byte : (b : ℕ) (bytes : List ℕ) → b < 256 → IsBytes bytes → IsBytes (b ∷ bytes)
 one_byte b bytes l h zero = l
 one_byte b bytes l h (suc i) = h i
 
-bytes_joined : (a b : List ℕ) → IsBytes a → IsBytes b → IsBytes (a ++ b)
+pub bytes_joined : (a b : List ℕ) → IsBytes a → IsBytes b → IsBytes (a ++ b)
 bytes_joined [] b p q = q
 bytes_joined (x ∷ a) b p q = one_byte x (a ++ b) (p zero) (bytes_joined a b (λ i. p (suc i)) q)
 
-word_bytes : (n : ℕ) → IsBytes (word n)
+pub word_bytes : (n : ℕ) → IsBytes (word n)
 unfolding word
 word_bytes n zero = omega arith
 word_bytes n (suc zero) = omega arith
@@ -56,7 +56,7 @@ words_bytes : (ns : List ℕ) → IsBytes (words ns)
 words_bytes [] = no_bytes
 words_bytes (n ∷ ns) = bytes_joined (word n) (words ns) (word_bytes n) (words_bytes ns)
 
-spelling_bytes : (r : Recipe) → IsBytes r.content → IsBytes (spelling r)
+pub spelling_bytes : (r : Recipe) → IsBytes r.content → IsBytes (spelling r)
 spelling_bytes r h =
     bytes_joined (word r.key ++ word r.command ++ word r.previous ++ word (length r.content)) r.content
     (bytes_joined (word r.key ++ word r.command ++ word r.previous) (word (length r.content))
