@@ -2,3 +2,5 @@ pub mod Reading
 pub mod Calls
 pub mod Whole
 pub mod Faults
+pub mod WorkedTexts
+pub mod FaultTexts

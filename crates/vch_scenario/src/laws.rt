@@ -4,6 +4,8 @@ ghost use Rattle.vch_scenario.specs.declared.fault.Why.{Why};
 ghost use Rattle.vch_model.specs.Scenarios.{IsScenario};
 ghost use Rattle.vch_scenario.specs.Faults.{IsFault};
 ghost use Rattle.vch_model.specs.Canonical.{Canon, IsWritable};
+ghost use Rattle.vch_scenario.specs.WorkedTexts.{AreOfScenarios};
+ghost use Rattle.vch_scenario.specs.FaultTexts.{HaveFaults, HaveNoScenario};
 
 /// A text is of one scenario or has one first fault, and never both.
 pub fn one_answer()
@@ -25,4 +27,13 @@ pub fn round_trip()
     ensures writable { (text : List ℕ) (sc : Scenario) → IsScenario text sc → IsWritable sc }
     ensures one_text { (s t : List ℕ) (a b : Scenario) →
         IsScenario s a → IsScenario t b → (a ≡ b) ↔ (Canon a ≡ Canon b) }
+{}
+
+/// Laws that compute: each text of a table is one of its scenario, and each of another table has its first fault, so it is one of
+/// no scenario.
+#[tactic(auto, using(crate::proofs::wholes::TextAnswers::of_scenarios, crate::proofs::wholes::TextAnswers::have_faults, crate::proofs::wholes::TextAnswers::have_no_scenario))]
+pub fn worked_texts()
+    ensures scenarios { AreOfScenarios }
+    ensures faults { HaveFaults }
+    ensures none { HaveNoScenario }
 {}

@@ -28,6 +28,6 @@ mod tests;
 mod writer;
 
 pub use fault::{ScenarioFault, Why};
-pub use laws::{one_answer, round_trip};
+pub use laws::{one_answer, round_trip, worked_texts};
 pub use reader::read;
 pub use writer::write;

@@ -10,10 +10,10 @@ use Rattle.vch_scenario.proofs.lines.FaultLines.{fault_answered, answer_fault, l
 use Rattle.vch_scenario.proofs.drafts.ItemRuns.{scenario_read}
 use Rattle.vch_scenario.proofs.drafts.ItemBack.{read_scenario}
 
-abbrev answer : List ℕ → Result Scenario At
+abbrev pub answer : List ℕ → Result Scenario At
 answer text = read_lines 1 nothing (split_of text).0 (split_of text).1
 
-abbrev good : Scenario → Result Scenario At
+abbrev pub good : Scenario → Result Scenario At
 good sc = Ok sc
 
 ok_same : (a b : Scenario) → a ≡ b → good b ≡ good a
@@ -27,9 +27,16 @@ ok_answer text sc h =
 err_answer : (text : List ℕ) (line : ℕ) (why : Why) → IsFault text line why → answer text ≡ Err (at_line line why)
 err_answer text line why h = fault_answered (split_of text).0 1 nothing (split_of text).1 line why refl h
 
+-- what the answer says of the text
+pub scenario_answered : (text : List ℕ) (sc : Scenario) → answer text ≡ good sc → IsScenario text sc
+scenario_answered text sc e = read_scenario text sc (answer_lead (split_of text).0 1 nothing (split_of text).1 sc refl e)
+
+pub fault_told : (text : List ℕ) (line : ℕ) (why : Why) → answer text ≡ Err (at_line line why) → IsFault text line why
+fault_told text line why e = answer_fault (split_of text).0 1 nothing (split_of text).1 line why refl e
+
 by_answer : (text : List ℕ) (r : Result Scenario At) → answer text ≡ r → ((sc : Scenario) × IsScenario text sc) ⊎ ((line : ℕ) × (why : Why) × IsFault text line why)
-by_answer text (Ok sc) e = inl (sc, read_scenario text sc (answer_lead (split_of text).0 1 nothing (split_of text).1 sc refl e))
-by_answer text (Err a) e = inr (a.line, a.why, answer_fault (split_of text).0 1 nothing (split_of text).1 a.line a.why refl e)
+by_answer text (Ok sc) e = inl (sc, scenario_answered text sc e)
+by_answer text (Err a) e = inr (a.line, a.why, fault_told text a.line a.why e)
 
 pub some_answer : (text : List ℕ) → ((sc : Scenario) × IsScenario text sc) ⊎ ((line : ℕ) × (why : Why) × IsFault text line why)
 some_answer text = by_answer text (answer text) refl
