@@ -108,7 +108,7 @@ pub record MakeAnswers (t : ℕ) (result : Result Made GetFault) (old new : Part
   pub places : old.user_entries.spare ≤ new.user_entries.spare
   pub own : IsOwnRefusal result
   pub gives : (m : Machine) → Stands old m → (reply : Result (Option Value) ℤ) × IsAsked old m t reply × value_calls.Makes old.user reply result new.user
-      × picture.Stands (got_picture (got_of result) (picture_of keys.User (plain_of old) m)) new.user_entries new.user
+      × picture.Depicts (got_picture (got_of result) (picture_of keys.User (plain_of old) m)) new.user_entries new.user
 
 -- whatever state the parts stand for, they stand for the one in which the map has lost the key, where that is the event
 pub record IsLoss (t : ℕ) (old new : Parts) : Type 0 where

@@ -149,7 +149,7 @@ handle_in entries (Some i) = handle_at entries.slots i
 
 -- wherever the entries fit a picture in which the handle has a holder, they fit the one with a holder more
 abbrev pub Keeps : Entries → Option ℕ → Entries → Type 0
-Keeps old i new = (p : Picture) (kept : Kept) → HeldAt (handle_in old i) p → picture.Stands p old kept → picture.Stands (shared_at (handle_in old i) p) new kept
+Keeps old i new = (p : Picture) (kept : Kept) → HeldAt (handle_in old i) p → picture.Depicts p old kept → picture.Depicts (shared_at (handle_in old i) p) new kept
 
 -- a key gets an index or none; what was there is to be let go of
 pub record Puts (old : Workspace) (k : Key) (i : Option ℕ) (new : Workspace) : Type 0 where

@@ -35,7 +35,7 @@ pub record KeyStands (k : Key) (c : Plain) (m : Machine) : Type 0 where
   pub free : (of_key k c.keyed).kept.free ≡ (of_key k m.pools).free
   pub used : length (of_key k c.keyed).kept.slots ≡ (of_key k m.pools).used
   pub row : (of_key k c.keyed).kept.rules.row ≡ k
-  pub counts : picture.Stands (picture_of k c m) (of_key k c.keyed).entries (of_key k c.keyed).kept
+  pub counts : picture.Depicts (picture_of k c m) (of_key k c.keyed).entries (of_key k c.keyed).kept
   pub made : (i : ℕ) → made_of (entry_at (of_key k c.keyed).entries.slots i) ≤ m.tally.refers
   pub few : (of_key k m.pools).used ≤ m.tally.refers + length (picture_of k c m).receipts + 1
 

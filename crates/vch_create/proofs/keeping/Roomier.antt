@@ -24,7 +24,7 @@ use Rattle.vch_state.proofs.CallerLemmas.{cells_same, task_stays}
 use Rattle.vch_create.specs.Demands.{IsRoomier}
 
 -- entries with more places fit what they fitted
-pub more_places : (p : Picture) (old new : Entries) (kept : Kept) → new.slots ≡ old.slots → old.spare ≤ new.spare → picture.Stands p old kept → picture.Stands p new kept
+pub more_places : (p : Picture) (old new : Entries) (kept : Kept) → new.slots ≡ old.slots → old.spare ≤ new.spare → picture.Depicts p old kept → picture.Depicts p new kept
 more_places p old new kept e l s = record {
   at = λ h. subst (λ slots. AgreesAt (count h p.holders) (flags_at h p.receipts) (claims_at h p.claims) (live_at kept.slots h) (entry_of slots h)) (sym e) (s.at h);
   room = let r = s.room in omega (arith, r, l);

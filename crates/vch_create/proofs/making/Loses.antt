@@ -123,7 +123,7 @@ module _ (sc : Scenario) (k : Key) (c : Plain) (m : Machine) (t : ℕ) (positive
     free = z.free;
     used = z.used;
     row = z.row;
-    counts = subst (λ (q : Picture). picture.Stands q (of_key k c.keyed).entries (of_key k c.keyed).kept) (sym picture_after) z.counts;
+    counts = subst (λ (q : Picture). picture.Depicts q (of_key k c.keyed).entries (of_key k c.keyed).kept) (sym picture_after) z.counts;
     made = z.made;
     few = subst (λ (q : Picture). (of_key k m.pools).used ≤ m.tally.refers + length q.receipts + 1) (sym picture_after) z.few;
   }

@@ -125,11 +125,11 @@ module _ (p : Parts) (t : ℕ) (task : is_task p.scenario t ≡ true) (next : Is
         → (result : Result Made GetFault) (e2 : Entries) (kept2 : Kept)
         → value_calls.Makes p.user (answer p.user.rules t q.command (managers.previous_of p.user.slots (previous_handle p.user_entries.slots q.previous)) content) result kept2
         → (e2.slots ≡ p.user_entries.slots) × (p.user_entries.spare ≤ e2.spare)
-        → ((x : Picture) → length x.receipts ≡ flying → picture.Stands x p.user_entries p.user → picture.Stands (got_picture (got_of result) x) e2 kept2)
+        → ((x : Picture) → length x.receipts ≡ flying → picture.Depicts x p.user_entries p.user → picture.Depicts (got_picture (got_of result) x) e2 kept2)
         → MakeAnswers t result p (record p { user_entries = e2; user = kept2 })
     ask_answers built content read flying tasks count all rules result e2 kept2 makes places stands = record { others = refl; slots = places.0; places = places.1; own = own_refusal p.user kept2 t q.command _ content result makes; gives = gives }
       where
-        gives : (m : Machine) → Stands p m → (reply : Result (Option Value) ℤ) × IsAsked p m t reply × value_calls.Makes p.user reply result kept2 × picture.Stands (got_picture (got_of result) (picture_of keys.User (plain_of p) m)) e2 kept2
+        gives : (m : Machine) → Stands p m → (reply : Result (Option Value) ℤ) × IsAsked p m t reply × value_calls.Makes p.user reply result kept2 × picture.Depicts (got_picture (got_of result) (picture_of keys.User (plain_of p) m)) e2 kept2
         gives m st = asking p t task next idle _ reached (λ f v bytes r rest z. makes_seen p t task next idle built m _ st f v bytes r rest z (λ g w y.
             let a = is f v bytes r rest z.own z.forms z.call z.first in
             let b : nth_call p.scenario t q.begun ≡ Some (calls.Create bytes) = ap (nth_call p.scenario t) a.2 ∙ z.call in

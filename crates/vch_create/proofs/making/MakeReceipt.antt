@@ -123,7 +123,7 @@ module _ (p : Parts) (t : ℕ) (task : is_task p.scenario t ≡ true) (next : Is
 
     -- the parts after, by their history and their numbers
     module _ (h2 : rows.Entries) (m2 : Keyed (List ℕ)) (n : Machine)
-        (slots : e2.slots ≡ p.user_entries.slots) (counts : picture.Stands (made_picture receipt (picture_of keys.User (plain_of p) m)) e2 k2)
+        (slots : e2.slots ≡ p.user_entries.slots) (counts : picture.Depicts (made_picture receipt (picture_of keys.User (plain_of p) m)) e2 k2)
         (tasks : n.tasks ≡ (given_receipt m t G Place).tasks) (tally : n.tally ≡ m.tally)
         (living : (i : ℕ) → IsLiving (number_at m2.user i) (live_at k2.slots i) (living_at n.live (record { key = keys.User; handle = i })))
         (free : k2.free ≡ (of_key keys.User n.pools).free) (used : length k2.slots ≡ (of_key keys.User n.pools).used) (rest_ : k2 ≡ record p.user { slots = k2.slots; free = k2.free })

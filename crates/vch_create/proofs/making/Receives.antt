@@ -122,7 +122,7 @@ module _ (sc : Scenario) (k : Key) (c : Plain) (m : Machine) (t : ℕ) (positive
 
   module _ (e2 : Entries) (kept2 : Kept) (numbers2 : List ℕ) (history2 : List Entry) (spare2 : ℕ) (n : Machine)
       (slots : e2.slots ≡ (of_key k c.keyed).entries.slots)
-      (counts : picture.Stands (made_picture receipt P) e2 kept2)
+      (counts : picture.Depicts (made_picture receipt P) e2 kept2)
       (tasks : n.tasks ≡ set_task mid.tasks t (framed (tasked mid t) (Some G2)))
       (tally : n.tally ≡ m.tally) where
     abbrev pub now : KeyParts
@@ -185,8 +185,8 @@ module _ (sc : Scenario) (k : Key) (c : Plain) (m : Machine) (t : ℕ) (positive
           omega (arith, a, b, d));
     }
 
-    counts_after : picture.Stands (picture_of k then_parts n) e2 kept2
-    counts_after = subst (λ (q : Picture). picture.Stands q e2 kept2) (sym picture_after) (stands_alike _ _ e2 _ alike counts)
+    counts_after : picture.Depicts (picture_of k then_parts n) e2 kept2
+    counts_after = subst (λ (q : Picture). picture.Depicts q e2 kept2) (sym picture_after) (stands_alike _ _ e2 _ alike counts)
 
     opens : open_of (Some G2) ≡ open_of (tasked mid t).frame
     opens = rw task_mid refl

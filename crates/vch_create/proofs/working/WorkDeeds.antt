@@ -86,7 +86,7 @@ module _ (c : Plain) where
         (w : Handles) (deed : Deed) (f : Key → Option (Option ℕ)) (is : DeedIs w deed f)
         (shared : (k : Key) (map : Indices) → IsShared c only kept ahead after receipts claims (becomes deed map k)) where
       abbrev pub Both : Workspace → WorkDone → Type 0
-      Both a z = Related c a z × picture.Stands (P c only kept ahead after receipts claims z) a.entries kept
+      Both a z = Related c a z × picture.Depicts (P c only kept ahead after receipts claims z) a.entries kept
 
       one_step : (k : Key) (a b : Workspace) (z : WorkDone) → of_key k z.forming ≡ of_key k w → Changes a k (becomes deed a.map k) b → Both a z → Both b (changed k (f k) z)
       one_step k a b z e g r =

@@ -152,7 +152,7 @@ module _ (p : Parts) (t : ℕ) (task : is_task p.scenario t ≡ true) (next : Is
     before_it = record { entries = p.user_entries; map = v; lets = [] }
 
     abbrev Both : Workspace → WorkDone → Type 0
-    Both a y = Related (plain_of p) a y × picture.Stands (P (plain_of p) (is_user p) p.user ahead after receipts claims y) a.entries p.user
+    Both a y = Related (plain_of p) a y × picture.Depicts (P (plain_of p) (is_user p) p.user ahead after receipts claims y) a.entries p.user
 
     range : (0 < t) × (t - 1 < length (plain_of p).tasks)
     range = in_parts p.scenario (keys.User ∷ []) (plain_of p) m t s task
@@ -166,7 +166,7 @@ module _ (p : Parts) (t : ℕ) (task : is_task p.scenario t ≡ true) (next : Is
     base : Both before_it (unworked p.scenario.version (plain_of p) w)
     base = (
       record { map = z.both.map; lets = tt; handles = λ i. refl; made = λ i. refl },
-      subst (λ (q : Picture). picture.Stands q p.user_entries p.user) (picture_now keys.User (plain_of p) m t range.0 s.shape.long range.1 ∙ rw (own_is, twin_is) refl) s.keyed.0.counts,
+      subst (λ (q : Picture). picture.Depicts q p.user_entries p.user) (picture_now keys.User (plain_of p) m t range.0 s.shape.long range.1 ∙ rw (own_is, twin_is) refl) s.keyed.0.counts,
     )
 
     -- what the code did to the map is what the machine does

@@ -155,8 +155,8 @@ module _ (c : Plain) where
     }
 
     pub seen_step : (k : Key) (f g : Workspace) (w : WorkDone) (x y : Option (Option ℕ)) → Becomes k x y → IsShared x → Changes f k x g → Related f w
-        → picture.Stands (P w) f.entries kept → picture.Stands (P (changed k y w)) g.entries kept
-    seen_step k f g w None None b q e r s = subst (λ z. picture.Stands (P w) z.entries kept) (sym e) s
+        → picture.Depicts (P w) f.entries kept → picture.Depicts (P (changed k y w)) g.entries kept
+    seen_step k f g w None None b q e r s = subst (λ z. picture.Depicts (P w) z.entries kept) (sym e) s
     seen_step k f g w None (Some h) b q e r s = absurd b
     seen_step k f g w (Some i) None b q e r s = absurd b
     seen_step k f g w (Some None) (Some None) b q e r s = stands_alike _ _ _ _ (alike_none k w) (e.keeps (P w) kept tt s)
@@ -164,7 +164,7 @@ module _ (c : Plain) where
     seen_step k f g w (Some (Some i)) (Some None) b q e r s = absurd b
     seen_step k f g w (Some (Some i)) (Some (Some h)) b q e r s = by k (only k i h b) b
       where
-        by : (z : Key) → z ≡ keys.User → IsIndexOf c z i h → picture.Stands (P (changed z (Some (Some h)) w)) g.entries kept
+        by : (z : Key) → z ≡ keys.User → IsIndexOf c z i h → picture.Depicts (P (changed z (Some (Some h)) w)) g.entries kept
         by keys.Importance z b = absurd (cc)
         by keys.Bank z b = absurd (cc)
         by keys.Test z b = absurd (cc)
@@ -172,4 +172,4 @@ module _ (c : Plain) where
             let at : handle_at f.entries.slots i ≡ Some h = r.handles i ∙ b in
             let held : 0 < count h (P w).holders = let a = around h w in let d = q h b in omega (arith, a, d) in
             stands_alike _ _ _ _ (alike_some h w)
-            (subst (λ o. picture.Stands (shared_at o (P w)) g.entries kept) at (e.keeps (P w) kept (subst (λ o. HeldAt o (P w)) (sym at) held) s))
+            (subst (λ o. picture.Depicts (shared_at o (P w)) g.entries kept) at (e.keeps (P w) kept (subst (λ o. HeldAt o (P w)) (sym at) held) s))

@@ -22,7 +22,7 @@ module _ (version : ℕ) (names : ℕ → Option Indices) (bytes : List ℕ) (at
   reads_step (steps.ContentCut wanted left) e = tt
   reads_step (steps.One key command previous content next) e = by (first_of (drop at bytes)) refl e
     where
-      by : (x : First) → first_of (drop at bytes) ≡ x → step.Answers (length bytes) x (steps.One key command previous content next) → Reading (steps.One key command previous content next)
+      by : (x : First) → first_of (drop at bytes) ≡ x → step.IsStepOf (length bytes) x (steps.One key command previous content next) → Reading (steps.One key command previous content next)
       by (One r rest) q a = λ change is. record {
         done = ap (first_change version names) q ∙ (same a.0 a.1 a.2 a.3 ∙ is);
         next = record_place bytes at next r rest inside q a.4 ∙ ap (λ x. at + size_of x) (sym q);

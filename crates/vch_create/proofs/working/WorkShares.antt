@@ -16,11 +16,11 @@ use Rattle.vch_create.specs.Works.{Workspace, Shares, one_more, Keeps, HeldAt, s
 
 -- what a call for one index says, of an index that may be none
 pub keeps_of : (old new : Entries) (i : ℕ) → IsSome (entry_at old.slots i)
-    → ((p : Picture) (kept : Kept) (h : ℕ) → handle_at old.slots i ≡ Some h → 0 < count h p.holders → picture.Stands p old kept → picture.Stands (shared_picture h p) new kept)
+    → ((p : Picture) (kept : Kept) (h : ℕ) → handle_at old.slots i ≡ Some h → 0 < count h p.holders → picture.Depicts p old kept → picture.Depicts (shared_picture h p) new kept)
     → Keeps old (Some i) new
 keeps_of old new i there stands p kept held s = by (entry_at old.slots i) refl there held
   where
-    by : (o : Option Entry) → entry_at old.slots i ≡ o → IsSome o → HeldAt (handle_of o) p → picture.Stands (shared_at (handle_of o) p) new kept
+    by : (o : Option Entry) → entry_at old.slots i ≡ o → IsSome o → HeldAt (handle_of o) p → picture.Depicts (shared_at (handle_of o) p) new kept
     by None q t held = let z : false ≡ true = t in absurd (cc)
     by (Some e) q t held = stands p kept e.handle (ap handle_of q) held s
 

@@ -67,7 +67,7 @@ module _ (sc : Scenario) (c : Plain) (m : Machine) (t : ℕ) (positive : 0 < t) 
   module _ (only : OnlyUser c) (e2 : Entries) (v2 : Indices) (ls : List KeyIndex) (next : ℕ) (z : WorkDone)
       (few : length z.left ≤ 8) (next_is : next ≡ place + size)
       (related : Related c (record { entries = e2; map = v2; lets = ls }) z)
-      (counts : picture.Stands (P_of only z) e2 kept_now) where
+      (counts : picture.Depicts (P_of only z) e2 kept_now) where
     abbrev pub F2 : Frame
     F2 = record { forming = Some v2; at = next; key = key; receipt = None; lets = ls; claim = Claiming.Nothing }
 
@@ -134,7 +134,7 @@ module _ (sc : Scenario) (c : Plain) (m : Machine) (t : ℕ) (positive : 0 < t) 
       free = k.free;
       used = k.used;
       row = k.row;
-      counts = subst (λ (p : Picture). picture.Stands p e2 kept_now) (sym picture_after) counts;
+      counts = subst (λ (p : Picture). picture.Depicts p e2 kept_now) (sym picture_after) counts;
       made = λ i. subst (λ n. n ≤ m.tally.refers) (sym (related.made i)) (k.made i);
       few = let f : (of_key keys.User m.pools).used ≤ m.tally.refers + length (picture_of keys.User c m).receipts + 1 = k.few in omega (arith, receipts_same, f);
     }

@@ -59,7 +59,7 @@ pub record Ended (p : Parts) : Type 0 where
   pub state : IsState p.scenario (plain_of p) machine
   pub limited : Limited p.scenario
   pub stands : StandsFor p.scenario (keys.User ∷ []) (plain_of p) machine
-  pub ties : tie.Stands p.scenario machine
+  pub ties : tie.Ties p.scenario machine
 
 ended_of : (p : Parts) → Reached p → Ended p
 unfolding IsEnd IsState

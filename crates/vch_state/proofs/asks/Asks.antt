@@ -244,7 +244,7 @@ module _ (sc : Scenario) (k : Key) (c : Plain) (m : Machine) (t : ℕ) (positive
       less : (a b x y z : ℕ) → a + 1 ≡ b → (b + 0) + x + y ≤ z → (a + 0) + x + y ≤ z - 1
       less a b x y z e r = omega arith
 
-  pub stands_after : picture.Stands answered_picture (of_key k c.keyed).entries kept2 → Fits sc then_machine → StandsFor sc (k ∷ []) then_parts then_machine
+  pub stands_after : picture.Depicts answered_picture (of_key k c.keyed).entries kept2 → Fits sc then_machine → StandsFor sc (k ∷ []) then_parts then_machine
   stands_after counts fits = record {
     keyed = (
       record {
@@ -252,7 +252,7 @@ module _ (sc : Scenario) (k : Key) (c : Plain) (m : Machine) (t : ℕ) (positive
         free = rw is_new (free b);
         used = rw is_new (used b);
         row = rw is_new (row b);
-        counts = rw is_new (subst (λ (q : Picture). picture.Stands q (of_key k c.keyed).entries kept2) (sym picture_after) counts);
+        counts = rw is_new (subst (λ (q : Picture). picture.Depicts q (of_key k c.keyed).entries kept2) (sym picture_after) counts);
         made = λ i. rw is_new (subst (λ n. entry.made_of (entry_at (of_key k c.keyed).entries.slots i) ≤ n) (sym (ap (λ (z : machine.Tally). z.refers) tally_is)) (s.keyed.0.made i));
         few = few;
       },

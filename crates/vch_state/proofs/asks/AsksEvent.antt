@@ -118,9 +118,9 @@ module _ (p : Parts) (t : ℕ) (f : Frame) (key : Key) (x : flight.Claim) (task 
 
     module _ (want : Bool) (limited : Limited p.scenario) (l : Live) (alive : live_at p.user.slots h ≡ Some l) (asked : Asked) (kept2 : Kept)
         (same_index : asked.index ≡ x.index) (same_sync : asked.sync ≡ x.sync) (leaves : kept2 ≡ after_release p.user h asked.agreed)
-        (stands : (q : Picture) (c : Claimed) (before after : List Claimed) → q.claims ≡ before ++ c ∷ after → IsFor p.user_entries x c → c.answered ≡ None → picture.Stands q p.user_entries p.user
-        → picture.Stands (with_claims q (before ++ picture.with_answer asked.agreed c ∷ after)) p.user_entries kept2)
-        (row : (q : Picture) (c : Claimed) (before after : List Claimed) → q.claims ≡ before ++ c ∷ after → IsFor p.user_entries x c → c.answered ≡ None → picture.Stands q p.user_entries p.user → asked.agreed ≡ not c.raced) where
+        (stands : (q : Picture) (c : Claimed) (before after : List Claimed) → q.claims ≡ before ++ c ∷ after → IsFor p.user_entries x c → c.answered ≡ None → picture.Depicts q p.user_entries p.user
+        → picture.Depicts (with_claims q (before ++ picture.with_answer asked.agreed c ∷ after)) p.user_entries kept2)
+        (row : (q : Picture) (c : Claimed) (before after : List Claimed) → q.claims ≡ before ++ c ∷ after → IsFor p.user_entries x c → c.answered ≡ None → picture.Depicts q p.user_entries p.user → asked.agreed ≡ not c.raced) where
       abbrev Next : Machine
       Next = asked_machine m t (leaving_machine g.forming g.at_byte g.keys g.lets (Some (unasked h y))) (unasked h y) asked.agreed
 
@@ -136,7 +136,7 @@ module _ (p : Parts) (t : ℕ) (f : Frame) (key : Key) (x : flight.Claim) (task 
       split : Q.claims ≡ before_ ++ claimed x.sync (unasked h y) ∷ after_
       split = one.split p.scenario keys.User (plain_of p) m t range.0 range.1 f.forming f.at f.key f.lets g.forming g.at_byte g.keys g.lets (Claiming.Claimed keys.User x) (unasked h y) own_is twin_is refl s
 
-      stands_now : picture.Stands Q p.user_entries p.user
+      stands_now : picture.Depicts Q p.user_entries p.user
       stands_now = one.stands_now p.scenario keys.User (plain_of p) m t range.0 range.1 f.forming f.at f.key f.lets g.forming g.at_byte g.keys g.lets (Claiming.Claimed keys.User x) (unasked h y) own_is twin_is refl s
 
       next_is : next_kind p.scenario m t ≡ Some kinds.Ask
@@ -149,9 +149,9 @@ module _ (p : Parts) (t : ℕ) (f : Frame) (key : Key) (x : flight.Claim) (task 
       happens = event_is p.scenario want m t (leaving_machine g.forming g.at_byte g.keys g.lets (Some (unasked h y))) kinds.Ask (Some Next) task twin_is next_is
           (ap Some (asked_machine_is m t (leaving_machine g.forming g.at_byte g.keys g.lets (Some (unasked h y))) (unasked h y) asked.agreed agreed_is))
 
-      counts : picture.Stands (asks.answered_picture p.scenario keys.User (plain_of p) m t range.0 range.1 f.forming f.at f.key f.lets g.forming g.at_byte g.keys g.lets x h y.raced y.back own_is twin_is z.index s asked asked.agreed l same_index same_sync refl alive)
+      counts : picture.Depicts (asks.answered_picture p.scenario keys.User (plain_of p) m t range.0 range.1 f.forming f.at f.key f.lets g.forming g.at_byte g.keys g.lets x h y.raced y.back own_is twin_is z.index s asked asked.agreed l same_index same_sync refl alive)
           p.user_entries (after_release p.user h asked.agreed)
-      counts = subst (λ k. picture.Stands (with_claims Q (before_ ++ picture.with_answer asked.agreed (claimed x.sync (unasked h y)) ∷ after_)) p.user_entries k) leaves
+      counts = subst (λ k. picture.Depicts (with_claims Q (before_ ++ picture.with_answer asked.agreed (claimed x.sync (unasked h y)) ∷ after_)) p.user_entries k) leaves
           (stands Q (claimed x.sync (unasked h y)) before_ after_ split (z.index, refl) refl stands_now)
 
       abbrev NextParts : Plain
@@ -210,9 +210,9 @@ module _ (p : Parts) (t : ℕ) (f : Frame) (key : Key) (x : flight.Claim) (task 
 
   pub ask_follows : (asked : Asked) (kept2 : Kept) → asked.index ≡ x.index → asked.sync ≡ x.sync
       → IfSome (handle_at p.user_entries.slots x.index) (λ h. kept2 ≡ after_release p.user h asked.agreed)
-      → ((q : Picture) (c : Claimed) (before after : List Claimed) → q.claims ≡ before ++ c ∷ after → IsFor p.user_entries x c → c.answered ≡ None → picture.Stands q p.user_entries p.user
-      → picture.Stands (with_claims q (before ++ picture.with_answer asked.agreed c ∷ after)) p.user_entries kept2)
-      → ((q : Picture) (c : Claimed) (before after : List Claimed) → q.claims ≡ before ++ c ∷ after → IsFor p.user_entries x c → c.answered ≡ None → picture.Stands q p.user_entries p.user → asked.agreed ≡ not c.raced)
+      → ((q : Picture) (c : Claimed) (before after : List Claimed) → q.claims ≡ before ++ c ∷ after → IsFor p.user_entries x c → c.answered ≡ None → picture.Depicts q p.user_entries p.user
+      → picture.Depicts (with_claims q (before ++ picture.with_answer asked.agreed c ∷ after)) p.user_entries kept2)
+      → ((q : Picture) (c : Claimed) (before after : List Claimed) → q.claims ≡ before ++ c ∷ after → IsFor p.user_entries x c → c.answered ≡ None → picture.Depicts q p.user_entries p.user → asked.agreed ≡ not c.raced)
       → (frames2 : List Working) (tally2 : Tally) (history2 : rows.Entries) (made handle : ℕ)
       → frames2 ≡ with_frame_of (with_frame_of p.frames t None) t (Some (record f { claim = Claiming.Answered key asked })) → tally2 ≡ one_asked p.tally
       → handle_at p.user_entries.slots x.index ≡ Some handle → made ≡ number_at (of_key key p.made) handle

@@ -51,8 +51,8 @@ module _ (sc : Scenario) (k : Key) (c : Plain) (m : Machine) (t : ℕ) (positive
   pub split : P.claims ≡ claims_before k c m t ++ own_claim ∷ claims_behind k c m t
   split = rw (ykey, same_key_refl k) refl
 
-  pub stands_now : picture.Stands P (of_key k c.keyed).entries (of_key k c.keyed).kept
-  stands_now = subst (λ (q : Picture). picture.Stands q (of_key k c.keyed).entries (of_key k c.keyed).kept) is_now s.keyed.0.counts
+  pub stands_now : picture.Depicts P (of_key k c.keyed).entries (of_key k c.keyed).kept
+  stands_now = subst (λ (q : Picture). picture.Depicts q (of_key k c.keyed).entries (of_key k c.keyed).kept) is_now s.keyed.0.counts
 
   -- the task's frame
   pub old_frame : IsFrame c (current sc m t) (F x) (G (Some y))

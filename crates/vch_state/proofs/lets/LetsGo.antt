@@ -172,7 +172,7 @@ module _ (sc : Scenario) (k : Key) (c : Plain) (m : Machine) (t : ℕ) (positive
       (handles : (i : ℕ) → handle_at e2.slots i ≡ handle_at (slots_of c k) i)
       (same_index : IsOf l.index o)
       (row : is_some o ≡ takes_claim h (ahead ++ after) P (of_key k c.keyed).kept)
-      (counts : picture.Stands (let_go_picture h o (ahead ++ after) P) e2 (of_key k c.keyed).kept) where
+      (counts : picture.Depicts (let_go_picture h o (ahead ++ after) P) e2 (of_key k c.keyed).kept) where
     abbrev pub F2 : Frame
     F2 = F1 (claiming k o)
 
@@ -234,8 +234,8 @@ module _ (sc : Scenario) (k : Key) (c : Plain) (m : Machine) (t : ℕ) (positive
     is_new : of_key k then_parts.keyed ≡ now
     is_new = of_with k now c.keyed
 
-    counts_after : picture.Stands (picture_of k then_parts then_machine) e2 (of_key k c.keyed).kept
-    counts_after = subst (λ (q : Picture). picture.Stands q e2 (of_key k c.keyed).kept) (sym picture_after) (stands_alike _ _ e2 _ alike counts)
+    counts_after : picture.Depicts (picture_of k then_parts then_machine) e2 (of_key k c.keyed).kept
+    counts_after = subst (λ (q : Picture). picture.Depicts q e2 (of_key k c.keyed).kept) (sym picture_after) (stands_alike _ _ e2 _ alike counts)
 
     refers_same : (o : Option flight.Claim) → (leaving.more_claims (told_claim o) m.tally).refers ≡ m.tally.refers
     refers_same None = refl

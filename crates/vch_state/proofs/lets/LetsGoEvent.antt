@@ -163,8 +163,8 @@ module _ (p : Parts) (t : ℕ) (f : Frame) (l : KeyIndex) (ls : List KeyIndex) (
     holders_are : seen_picture.holders ≡ first_part ++ q.handle ∷ last_part
     holders_are = split p.scenario keys.User (plain_of p) m t range.0 range.1 f.forming f.at f.key l ls g.forming g.at_byte g.keys q.handle rest own_is twin_is key index s
 
-    stands_now : picture.Stands seen_picture p.user_entries p.user
-    stands_now = subst (λ (x : Picture). picture.Stands x p.user_entries p.user) picture_is s.keyed.0.counts
+    stands_now : picture.Depicts seen_picture p.user_entries p.user
+    stands_now = subst (λ (x : Picture). picture.Depicts x p.user_entries p.user) picture_is s.keyed.0.counts
 
     referred : IsApart p.user_entries.slots → 1 ≤ refs_of (entry_at p.user_entries.slots l.index)
     referred apart = entry_of_handle p.user_entries.slots l.index q.handle _ index (λ x at same.
@@ -179,8 +179,8 @@ module _ (p : Parts) (t : ℕ) (f : Frame) (l : KeyIndex) (ls : List KeyIndex) (
 
     module _ (want : Bool) (limited : Limited p.scenario) (e2 : Entries) (o : Option flight.Claim)
         (call : LetsGo p.user_entries l.index o e2)
-        (stands : (x : Picture) (kept : Kept) (h : ℕ) (before behind : List ℕ) → handle_at p.user_entries.slots l.index ≡ Some h → x.holders ≡ before ++ h ∷ behind → picture.Stands x p.user_entries kept → picture.Stands (let_go_picture h o (before ++ behind) x) e2 kept)
-        (row : (x : Picture) (kept : Kept) (h : ℕ) (before behind : List ℕ) → handle_at p.user_entries.slots l.index ≡ Some h → x.holders ≡ before ++ h ∷ behind → picture.Stands x p.user_entries kept → is_some o ≡ takes_claim h (before ++ behind) x kept) where
+        (stands : (x : Picture) (kept : Kept) (h : ℕ) (before behind : List ℕ) → handle_at p.user_entries.slots l.index ≡ Some h → x.holders ≡ before ++ h ∷ behind → picture.Depicts x p.user_entries kept → picture.Depicts (let_go_picture h o (before ++ behind) x) e2 kept)
+        (row : (x : Picture) (kept : Kept) (h : ℕ) (before behind : List ℕ) → handle_at p.user_entries.slots l.index ≡ Some h → x.holders ≡ before ++ h ∷ behind → picture.Depicts x p.user_entries kept → is_some o ≡ takes_claim h (before ++ behind) x kept) where
       there : IsSome (entry_at p.user_entries.slots l.index)
       there = there_of p.user_entries.slots l.index q.handle index
 
@@ -236,8 +236,8 @@ module _ (p : Parts) (t : ℕ) (f : Frame) (l : KeyIndex) (ls : List KeyIndex) (
   let_go_counts r apart = from_reached p _ r (λ m limited s. seen m _ s (λ g q rest e z. referred m s g q rest e z apart))
 
   pub let_go_follows : (e2 : Entries) (o : Option flight.Claim) (frames2 : List Working) (tally2 : Tally) → LetsGo p.user_entries l.index o e2
-      → ((x : Picture) (kept : Kept) (h : ℕ) (before behind : List ℕ) → handle_at p.user_entries.slots l.index ≡ Some h → x.holders ≡ before ++ h ∷ behind → picture.Stands x p.user_entries kept → picture.Stands (let_go_picture h o (before ++ behind) x) e2 kept)
-      → ((x : Picture) (kept : Kept) (h : ℕ) (before behind : List ℕ) → handle_at p.user_entries.slots l.index ≡ Some h → x.holders ≡ before ++ h ∷ behind → picture.Stands x p.user_entries kept → is_some o ≡ takes_claim h (before ++ behind) x kept)
+      → ((x : Picture) (kept : Kept) (h : ℕ) (before behind : List ℕ) → handle_at p.user_entries.slots l.index ≡ Some h → x.holders ≡ before ++ h ∷ behind → picture.Depicts x p.user_entries kept → picture.Depicts (let_go_picture h o (before ++ behind) x) e2 kept)
+      → ((x : Picture) (kept : Kept) (h : ℕ) (before behind : List ℕ) → handle_at p.user_entries.slots l.index ≡ Some h → x.holders ≡ before ++ h ∷ behind → picture.Depicts x p.user_entries kept → is_some o ≡ takes_claim h (before ++ behind) x kept)
       → frames2 ≡ with_frame_of (with_frame_of p.frames t None) t (closed (record f { lets = ls; claim = claiming l.key o })) → tally2 ≡ more_claims o p.tally
       → Follows kinds.LetGo t p (record p { frames = frames2; user_entries = e2; tally = tally2 })
   unfolding IsEvent IsState

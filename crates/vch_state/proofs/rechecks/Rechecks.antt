@@ -108,7 +108,7 @@ module _ (sc : Scenario) (k : Key) (c : Plain) (m : Machine) (t : ℕ) (positive
     then_machine = frames.with_frame m t (frames.closed G2)
 
     module _ (steady : Steady sc k c then_parts m t (F Claiming.Nothing) (G None)) (same_index : (z : flight.Claim) → o ≡ Some z → IsIndexOf then_parts k z.index h)
-        (counts : picture.Stands (with_claims P (claims_before k c m t ++ again h o P.receipts (claims_behind k c m t))) e2 (of_key k c.keyed).kept) where
+        (counts : picture.Depicts (with_claims P (claims_before k c m t ++ again h o P.receipts (claims_behind k c m t))) e2 (of_key k c.keyed).kept) where
       inside_tasks : t - 1 < length m.tasks
       inside_tasks = omega (arith, s.shape.long, inside)
 
@@ -163,7 +163,7 @@ module _ (sc : Scenario) (k : Key) (c : Plain) (m : Machine) (t : ℕ) (positive
             free = rw is_new s.keyed.0.free;
             used = rw is_new s.keyed.0.used;
             row = rw is_new s.keyed.0.row;
-            counts = rw is_new (subst (λ (q : Picture). picture.Stands q e2 (of_key k c.keyed).kept) (sym picture_after) counts);
+            counts = rw is_new (subst (λ (q : Picture). picture.Depicts q e2 (of_key k c.keyed).kept) (sym picture_after) counts);
             made = λ i. rw is_new (lower i);
             few = few_after;
           },

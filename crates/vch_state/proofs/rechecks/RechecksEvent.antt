@@ -196,7 +196,7 @@ module _ (p : Parts) (t : ℕ) (f : Frame) (key : Key) (x : Asked) (task : is_ta
     split : P.claims ≡ claims_before keys.User (plain_of p) m t ++ claimed x.sync Y ∷ claims_behind keys.User (plain_of p) m t
     split = one.split p.scenario keys.User (plain_of p) m t range.0 range.1 f.forming f.at f.key f.lets g.forming g.at_byte g.keys g.lets (Claiming.Answered keys.User x) Y own_is twin_is refl s
 
-    stands_now : picture.Stands P p.user_entries p.user
+    stands_now : picture.Depicts P p.user_entries p.user
     stands_now = one.stands_now p.scenario keys.User (plain_of p) m t range.0 range.1 f.forming f.at f.key f.lets g.forming g.at_byte g.keys g.lets (Claiming.Answered keys.User x) Y own_is twin_is refl s
 
     old_frame : IsFrame (plain_of p) (current p.scenario m t) (leaving_frame f.forming f.at f.key f.lets (Claiming.Answered keys.User x)) (leaving_machine g.forming g.at_byte g.keys g.lets (Some Y))
@@ -324,9 +324,9 @@ module _ (p : Parts) (t : ℕ) (f : Frame) (key : Key) (x : Asked) (task : is_ta
           again_index check.Done w q = cc
 
       module _ (want : Bool) (limited : Limited p.scenario) (apart : IsApart p.user_entries.slots) (call : Rechecks p.user_entries x o e2)
-          (stands : (q : Picture) (kept : Kept) (c : Claimed) (before after : List Claimed) → q.claims ≡ before ++ c ∷ after → IsAnswered p.user_entries x c → picture.Stands q p.user_entries kept
-          → picture.Stands (with_claims q (before ++ again c.handle o q.receipts after)) e2 kept)
-          (row : (q : Picture) (kept : Kept) (c : Claimed) (before after : List Claimed) → q.claims ≡ before ++ c ∷ after → IsAnswered p.user_entries x c → picture.Stands q p.user_entries kept → is_some o ≡ takes_again c q) where
+          (stands : (q : Picture) (kept : Kept) (c : Claimed) (before after : List Claimed) → q.claims ≡ before ++ c ∷ after → IsAnswered p.user_entries x c → picture.Depicts q p.user_entries kept
+          → picture.Depicts (with_claims q (before ++ again c.handle o q.receipts after)) e2 kept)
+          (row : (q : Picture) (kept : Kept) (c : Claimed) (before after : List Claimed) → q.claims ≡ before ++ c ∷ after → IsAnswered p.user_entries x c → picture.Depicts q p.user_entries kept → is_some o ≡ takes_again c q) where
         abbrev Next : Machine
         Next = rechecks.then_machine p.scenario keys.User (plain_of p) m t range.0 range.1 f.forming f.at f.key f.lets g.forming g.at_byte g.keys g.lets x h y.raced y.back own_is twin_is s e2 o
 
@@ -368,9 +368,9 @@ module _ (p : Parts) (t : ℕ) (f : Frame) (key : Key) (x : Asked) (task : is_ta
   recheck_within r apart = from_reached p _ r (λ m limited s. seen m _ s (λ g y user e z. within m s g y user e z apart))
 
   pub recheck_follows : (e2 : Entries) (o : Option flight.Claim) → IsApart p.user_entries.slots → Rechecks p.user_entries x o e2
-      → ((q : Picture) (kept : Kept) (c : Claimed) (before after : List Claimed) → q.claims ≡ before ++ c ∷ after → IsAnswered p.user_entries x c → picture.Stands q p.user_entries kept
-      → picture.Stands (with_claims q (before ++ again c.handle o q.receipts after)) e2 kept)
-      → ((q : Picture) (kept : Kept) (c : Claimed) (before after : List Claimed) → q.claims ≡ before ++ c ∷ after → IsAnswered p.user_entries x c → picture.Stands q p.user_entries kept → is_some o ≡ takes_again c q)
+      → ((q : Picture) (kept : Kept) (c : Claimed) (before after : List Claimed) → q.claims ≡ before ++ c ∷ after → IsAnswered p.user_entries x c → picture.Depicts q p.user_entries kept
+      → picture.Depicts (with_claims q (before ++ again c.handle o q.receipts after)) e2 kept)
+      → ((q : Picture) (kept : Kept) (c : Claimed) (before after : List Claimed) → q.claims ≡ before ++ c ∷ after → IsAnswered p.user_entries x c → picture.Depicts q p.user_entries kept → is_some o ≡ takes_again c q)
       → (frames2 : List Working) → frames2 ≡ with_frame_of (with_frame_of p.frames t None) t (closed (record f { claim = claiming key o }))
       → Follows kinds.Recheck t p (record p { frames = frames2; user_entries = e2 })
   unfolding IsEvent IsState

@@ -108,7 +108,7 @@ module _ (sc : Scenario) (k : Key) (c : Plain) (m : Machine) (t : ℕ) (positive
   module _ (e2 : Entries) (index : ℕ) (u : Indices)
       (refers : Refers (of_key k c.keyed).entries h receipt.persist index e2)
       (bounded : Bounded u) (sets : SetsIndex v u (number_of k) (Some index))
-      (counts : picture.Stands (referred_picture h (receipts_before k c m t ++ receipts_behind k c m t) P) e2 (of_key k c.keyed).kept) where
+      (counts : picture.Depicts (referred_picture h (receipts_before k c m t ++ receipts_behind k c m t) P) e2 (of_key k c.keyed).kept) where
     abbrev pub next : ℕ
     next = at + (16 + length r.content)
 
@@ -192,8 +192,8 @@ module _ (sc : Scenario) (k : Key) (c : Plain) (m : Machine) (t : ℕ) (positive
         holders_is : (x : ℕ) → count x Q.holders ≡ count x (h ∷ (picture_by k c mid t (Some F) (Some G)).holders)
         holders_is x = rw (of_with k (Some h) w) (holders_moved x (of_key k w) (held_before k c mid t) (held_behind k c mid t))
 
-    counts_after : picture.Stands (picture_of k then_parts then_machine) e2 (of_key k c.keyed).kept
-    counts_after = subst (λ (q : Picture). picture.Stands q e2 (of_key k c.keyed).kept) (sym picture_after) (stands_alike _ _ e2 _ alike counts)
+    counts_after : picture.Depicts (picture_of k then_parts then_machine) e2 (of_key k c.keyed).kept
+    counts_after = subst (λ (q : Picture). picture.Depicts q e2 (of_key k c.keyed).kept) (sym picture_after) (stands_alike _ _ e2 _ alike counts)
 
     few_after : (of_key k m.pools).used ≤ (m.tally.refers + 1) + length (picture_of k then_parts then_machine).receipts + 1
     few_after =

@@ -200,7 +200,7 @@ module _ (p : Parts) (t : ℕ) (f : Frame) (x : KeyReceipt) (task : is_task p.sc
 
     module _ (want : Bool) (limited : Limited p.scenario) (e2 : Entries) (index : ℕ) (f3 : Frame)
         (refers : Refers p.user_entries x.receipt.handle x.receipt.persist index e2)
-        (stands : (q : Picture) (kept : Kept) (before after : List Receipt) → q.receipts ≡ before ++ x.receipt ∷ after → picture.Stands q p.user_entries kept → picture.Stands (referred_picture x.receipt.handle (before ++ after) q) e2 kept)
+        (stands : (q : Picture) (kept : Kept) (before after : List Receipt) → q.receipts ≡ before ++ x.receipt ∷ after → picture.Depicts q p.user_entries kept → picture.Depicts (referred_picture x.receipt.handle (before ++ after) q) e2 kept)
         (puts : IfSome f.forming (λ v. PutsIndex x.key (Some index) v (record f { receipt = None }) f3)) where
       put_now : PutsIndex keys.User (Some index) v (record f { receipt = None }) f3
       put_now = subst (λ k. PutsIndex k (Some index) v (record f { receipt = None }) f3) z.key
@@ -295,7 +295,7 @@ module _ (p : Parts) (t : ℕ) (f : Frame) (x : KeyReceipt) (task : is_task p.sc
 
   pub refer_follows : (e2 : Entries) (index : ℕ) (f3 : Frame) (call : Call) (place : ℕ) (frames2 : List Working) (tally2 : Tally)
       → Refers p.user_entries x.receipt.handle x.receipt.persist index e2
-      → ((q : Picture) (kept : Kept) (before after : List Receipt) → q.receipts ≡ before ++ x.receipt ∷ after → picture.Stands q p.user_entries kept → picture.Stands (referred_picture x.receipt.handle (before ++ after) q) e2 kept)
+      → ((q : Picture) (kept : Kept) (before after : List Receipt) → q.receipts ≡ before ++ x.receipt ∷ after → picture.Depicts q p.user_entries kept → picture.Depicts (referred_picture x.receipt.handle (before ++ after) q) e2 kept)
       → IfSome f.forming (λ v. PutsIndex x.key (Some index) v (record f { receipt = None }) f3)
       → nth_call p.scenario t (begun_of p.frames t) ≡ Some call → place ≡ f3.at + size_of (first_of (drop f3.at (bytes_of call)))
       → frames2 ≡ with_frame_of (with_frame_of p.frames t None) t (Some (record f3 { at = place; key = 0 })) → tally2 ≡ one_referred p.tally

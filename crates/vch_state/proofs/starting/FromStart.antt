@@ -110,10 +110,10 @@ module _ (sc : Scenario) (c : Plain) (limited : IsLimited sc)
   entries_are : (e : Entries) → e.slots ≡ [] → e ≡ record { slots = []; spare = e.spare }
   entries_are e q = rw (← q) refl
 
-  counts : picture.Stands (picture_of keys.User c (machine.start sc)) c.keyed.user.entries c.keyed.user.kept
-  counts = subst (λ (p : Picture). picture.Stands p c.keyed.user.entries c.keyed.user.kept) (sym picture_empty)
-      (subst (λ e. picture.Stands empty e c.keyed.user.kept) (sym (entries_are c.keyed.user.entries entries))
-      (subst (λ k. picture.Stands empty (record { slots = []; spare = c.keyed.user.entries.spare }) k) (sym kept)
+  counts : picture.Depicts (picture_of keys.User c (machine.start sc)) c.keyed.user.entries c.keyed.user.kept
+  counts = subst (λ (p : Picture). picture.Depicts p c.keyed.user.entries c.keyed.user.kept) (sym picture_empty)
+      (subst (λ e. picture.Depicts empty e c.keyed.user.kept) (sym (entries_are c.keyed.user.entries entries))
+      (subst (λ k. picture.Depicts empty (record { slots = []; spare = c.keyed.user.entries.spare }) k) (sym kept)
       (starts c.keyed.user.entries.spare (record { slots = []; free = []; ledgers = []; asked = 0; rules = user_rules }) (λ h m e. absurd (cc)))))
 
   resting_at : (t : ℕ) → at_task (rests sc.flags) t idle_part ≡ idle_part
