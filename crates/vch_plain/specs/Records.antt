@@ -12,11 +12,11 @@ use Rattle.vch_plain.specs.States.{user_voucher}
 use Rattle.vch_plain.specs.declared.record.Worked.{Worked}
 
 -- a record with nothing left of the map yet
-abbrev pub fresh_work : Option ℕ → working.Worked
+abbrev pub fresh_work : Option ℕ → working.WorkDone
 fresh_work handle = record { forming = user_voucher handle; left = [] }
 
 -- what a record made, or its code
-abbrev pub worked_of : Result Worked Code → Result working.Worked ℤ
+abbrev pub worked_of : Result Worked Code → Result working.WorkDone ℤ
 worked_of (Ok w) = Ok (record { forming = user_voucher w.handle; left = item keys.User w.left })
 worked_of (Err code) = Err code.number
 
