@@ -1,0 +1,4 @@
+pub mod FewNames
+pub mod Repeated
+pub mod Groups
+pub mod Written
