@@ -14,7 +14,7 @@ use Rattle.vch_legal.proofs.CallerLemmas.{task_of, lines_with_phase, count_cons}
 use Rattle.vch_state.specs.declared.parts.Parts.{Parts}
 use Rattle.vch_state.specs.declared.frames.Working.{Working}
 use Rattle.vch_state.specs.Plain.{begun_of}
-use Rattle.vch_state.specs.Bounds.{IsOfTask}
+use Rattle.vch_script.specs.Places.{IsOfTask}
 use Rattle.vch_state.specs.Reached.{Reached}
 use Rattle.vch_core.specs.declared.turn.Cursor.{Cursor}
 use Rattle.vch_core.specs.Turning.{Goes, IsPassed, IsCursor, CursorAt, AreBegun, lines_of_task, seen_after, rewound}

@@ -9,7 +9,7 @@ use Rattle.vch_model.specs.Lines.{lines_of, lines_until}
 use Rattle.vch_model.specs.Scenarios.{line_count}
 use Rattle.vch_legal.proofs.CallerLemmas.{lines_of_tasks, all_of_tasks, lines_with_phase, no_lines}
 use Rattle.vch_state.specs.declared.parts.Parts.{Parts}
-use Rattle.vch_state.specs.Bounds.{IsOfTask}
+use Rattle.vch_script.specs.Places.{IsOfTask}
 use Rattle.vch_state.specs.Reached.{Reached}
 use Rattle.vch_state.proofs.CallerLemmas.{task_number}
 use Rattle.vch_core.specs.declared.turn.Cursor.{Cursor}

@@ -14,7 +14,7 @@ use Rattle.vch_legal.proofs.CallerLemmas.{task_of, count_cons}
 use Rattle.vch_state.specs.declared.parts.Parts.{Parts}
 use Rattle.vch_state.specs.declared.frames.Working.{Working}
 use Rattle.vch_state.specs.Plain.{begun_of}
-use Rattle.vch_state.specs.Bounds.{IsOfTask, AreOfTasks}
+use Rattle.vch_script.specs.Places.{IsOfTask, AreOfTasks}
 use Rattle.vch_state.specs.Reached.{Reached, Stands}
 use Rattle.vch_core.specs.declared.turn.Cursor.{Cursor}
 use Rattle.vch_core.specs.Turning.{IsWaiting, AreBegun, IsCursor, seen_after, lines_before, current_lines}

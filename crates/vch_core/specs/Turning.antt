@@ -11,7 +11,7 @@ use Rattle.vch_legal.specs.Facts.{times}
 use Rattle.vch_state.specs.declared.parts.Parts.{Parts}
 use Rattle.vch_state.specs.declared.frames.Working.{Working}
 use Rattle.vch_state.specs.Plain.{begun_of, frame_of}
-use Rattle.vch_state.specs.Bounds.{IsOfTask}
+use Rattle.vch_script.specs.Places.{IsOfTask}
 use Rattle.vch_state.specs.Reached.{Stands}
 use Rattle.vch_core.specs.declared.turn.Cursor.{Cursor}
 use Rattle.vch_create.specs.Called.{HasNext}

@@ -16,7 +16,8 @@ use crate::record::voucher_of;
 use vch_base::Key;
 use vch_model::Call;
 use vch_recipe::{Step, next_recipe};
-use vch_state::{Parts, Script};
+use vch_script::Script;
+use vch_state::Parts;
 use vch_table::Indices;
 
 /// What a record asks its manager beside its content: the command, and the index of the value that it begins with, if there

@@ -1,7 +1,6 @@
 -- What other crates cite of the lemmas of this one.
 pub use Rattle.vch_state.proofs.asks.Asks.{same_at}
 pub use Rattle.vch_state.proofs.framing.Boths.{both_put, both_at, both_length}
-pub use Rattle.vch_state.proofs.starting.CallsFound.{no_more}
 pub use Rattle.vch_state.proofs.framing.Closing.{Formless, closed_frames, holds_closed, receipts_closed, claimed_closed, rank_closed, makes_closed, open_closed, flying_closed}
 pub use Rattle.vch_state.proofs.phases.EachLine.{line_has}
 pub use Rattle.vch_state.proofs.framing.FrameParts.{frames_of}

@@ -3,6 +3,7 @@ use Rattle.std.specs.Prelude.{ℕ, ◌+◌, ◌-◌, ◌*◌, ◌<◌, ◌≤◌
 use Rattle.std.specs.List.{AllByRecursion}
 use Rattle.vch_model.specs.Lines.{lines_of, phases_in}
 use Rattle.vch_model.specs.Scenarios.{line_count}
+use Rattle.vch_script.specs.Places.{AreOfTasks}
 use Rattle.vch_model.specs.declared.call.Call.{Call}
 use Rattle.vch_model.specs.declared.call.Call.TheVariants as calls
 use Rattle.vch_model.specs.declared.call.Line.{Line}
@@ -14,13 +15,6 @@ use Rattle.vch_legal.specs.Facts.{bit}
 -- the number of calls of a scenario
 abbrev pub calls_of : Scenario → ℕ
 calls_of sc = line_count sc.phases
-
--- each line is of one of so many tasks
-abbrev pub IsOfTask : ℕ → Line → Type 0
-IsOfTask tasks l = (0 < l.task) × (l.task ≤ tasks)
-
-abbrev pub AreOfTasks : ℕ → List (List Line) → Type 0
-AreOfTasks tasks phases = AllByRecursion (λ lines. AllByRecursion (IsOfTask tasks) lines) phases
 
 -- at most so many tasks, phases and calls, and each line is of a task
 pub record Limited (sc : Scenario) : Type 0 where

@@ -5,7 +5,6 @@ pub mod Shape
 pub mod Pictures
 pub mod Bounds
 pub mod Stands
-pub mod Places
 pub mod Moves
 pub mod Reached
 pub mod Nexts

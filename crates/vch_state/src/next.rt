@@ -10,7 +10,7 @@ ghost use Rattle.vch_state.specs.Nexts as nexts;
 ghost use Rattle.vch_state.specs.Nexts.{known_slot};
 ghost use Rattle.vch_state.specs.Reached.{IsNext, Reached};
 
-use crate::{Core, Frame, Script, Working};
+use crate::{Core, Frame, Working};
 use vch_base::commands::{
     AUTO_REDEEM, COPY, NOOP, REDEEM, REMOVE, SEND_PREPROCESS, SET_VALUE_HANDLE,
 };
@@ -18,6 +18,7 @@ use vch_base::{ALL_KEYS, Key, Kind};
 use vch_model::Call;
 use vch_ports::Space;
 use vch_recipe::{Step, next_recipe};
+use vch_script::Script;
 
 /// Whether a command is one that no record may give.
 fn is_core_command(command: u32) -> bool

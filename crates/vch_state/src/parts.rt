@@ -1,6 +1,7 @@
-use crate::{Frames, MadeNumbers, Script, Spaces, Tally};
+use crate::{Frames, MadeNumbers, Spaces, Tally};
 use vch_entry::EntryTable;
 use vch_model::History;
+use vch_script::Script;
 use vch_table::VoucherTable;
 use vch_user::UserManager;
 

@@ -5,12 +5,13 @@ ghost use Rattle.vch_state.specs.Fresh.{AreFresh, all_resting};
 ghost use Rattle.vch_state.specs.Reached.{Stands};
 
 use crate::copy::copy_scenario;
-use crate::{Core, Frames, MadeNumbers, Parts, Script, Spaces, Tally};
+use crate::{Core, Frames, MadeNumbers, Parts, Spaces, Tally};
 use std::alloc::Global;
 use vch_base::NoMemory;
 use vch_entry::EntryTable;
 use vch_model::{History, Scenario};
 use vch_ports::Space;
+use vch_script::Script;
 use vch_table::VoucherTable;
 use vch_user::UserManager;
 

@@ -13,7 +13,7 @@ use Rattle.vch_state.specs.declared.parts.Parts.{Parts}
 use Rattle.vch_state.specs.Plain.{frame_of, begun_of}
 use Rattle.vch_state.specs.Reached.{Reached, IsNext}
 use Rattle.vch_model.specs.UserOnly.{IsUserCall, IsUserOnly}
-use Rattle.vch_state.proofs.CallerLemmas.{no_more}
+use Rattle.vch_script.proofs.CallerLemmas.{no_more}
 use Rattle.vch_create.specs.Beginnings.{demand_of}
 use Rattle.vch_create.specs.declared.begin.Demand.TheVariants as of
 use Rattle.vch_create.proofs.beginning.BeginEvent.{begin_few, twin_is, number_is, kind_is}

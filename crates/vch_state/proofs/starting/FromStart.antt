@@ -27,7 +27,7 @@ use Rattle.vch_state.specs.Shape.{IsTask, referred_by}
 use Rattle.vch_state.specs.Pictures.{both, picture_of, task_holds, part_expects, both_claimed}
 use Rattle.vch_state.specs.Bounds.{Limited, TaskSpent, sum_tasks, in_all, rank_in, makes_in, open_in, references_in, unanswered_in}
 use Rattle.vch_state.specs.Stands.{StandsFor}
-use Rattle.vch_state.proofs.starting.OfTasks.{of_tasks}
+use Rattle.vch_script.proofs.CallerLemmas.{of_tasks}
 use Rattle.vch_state.proofs.counts.Sums.{sum_bounded}
 use Rattle.vch_state.specs.Reached.{plain_of, parts_in, part_in, IsState, IsEnd}
 

@@ -4,7 +4,7 @@ use Rattle.std.specs.Prelude.{slice_get}
 use Rattle.std.specs.List.{AllByRecursion}
 use Rattle.vch_model.specs.declared.call.Line.{Line}
 use Rattle.vch_model.specs.Scenarios.{IsIn}
-use Rattle.vch_state.specs.Bounds.{IsOfTask, AreOfTasks}
+use Rattle.vch_script.specs.Places.{IsOfTask, AreOfTasks}
 
 lines_of_task : (version tasks : ℕ) (lines : List Line) → AllByRecursion (λ l. IsIn version tasks l) lines → AllByRecursion (IsOfTask tasks) lines
 lines_of_task version tasks [] h = tt

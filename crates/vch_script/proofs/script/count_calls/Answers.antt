@@ -1,6 +1,6 @@
 use Rattle.std.proofs.Common.{arith}
-use Rattle.vch_state.proofs.starting.Loops.{count_step, count_fits}
-use Rattle.vch_state.proofs.script.count_calls.Goals as goal
+use Rattle.vch_script.proofs.finding.Loops.{count_step, count_fits}
+use Rattle.vch_script.proofs.script.count_calls.Goals as goal
 
 pub overflow_add-count : goal.overflow_add-count
 overflow_add-count c =

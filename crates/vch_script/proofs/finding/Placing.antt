@@ -9,11 +9,11 @@ use Rattle.std.proofs.lemmas.Option.{get_or_from_slice_get}
 use Rattle.std.proofs.lemmas.Grind.{common_steps}
 use Rattle.vch_model.specs.declared.call.Line.{Line}
 use Rattle.vch_model.specs.Lines.{lines_from}
-use Rattle.vch_state.specs.declared.places.Spot.{Spot}
-use Rattle.vch_state.specs.Bounds.{AreOfTasks, IsOfTask}
-use Rattle.vch_state.specs.Places.{line_at_spot, spots_of, Placed, first_lines, AddsLines}
-use Rattle.vch_state.proofs.starting.OfTasks.{line_of_task}
-use Rattle.vch_state.proofs.starting.Loops.{take_next}
+use Rattle.vch_script.specs.declared.places.Spot.{Spot}
+use Rattle.vch_script.specs.Places.{AreOfTasks, IsOfTask}
+use Rattle.vch_script.specs.Places.{line_at_spot, spots_of, Placed, first_lines, AddsLines}
+use Rattle.vch_script.proofs.finding.OfTasks.{line_of_task}
+use Rattle.vch_script.proofs.finding.Loops.{take_next}
 
 abbrev Numbered : Type 0
 Numbered = ℕ × Line

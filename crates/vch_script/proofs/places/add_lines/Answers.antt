@@ -1,6 +1,6 @@
 use Rattle.std.proofs.Common.{arith}
-use Rattle.vch_state.proofs.starting.Placing.{adds_next, adds_all}
-use Rattle.vch_state.proofs.places.add_lines.Goals as goal
+use Rattle.vch_script.proofs.finding.Placing.{adds_next, adds_all}
+use Rattle.vch_script.proofs.places.add_lines.Goals as goal
 
 pub loop-line-preserved : goal.loop-line-preserved
 loop-line-preserved c =

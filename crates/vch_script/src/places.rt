@@ -1,12 +1,13 @@
-ghost use Rattle.std.specs.Prelude.{◌≡◌, ◌≤◌, ◌<◌, ◌+◌, ◌-◌, ◌++◌, ◌∷◌, [], ℕ, OnOk, OnErr, IfOk, length, slice_get, slice_set, slice_index_or};
-ghost use Rattle.vch_model.specs.Lines.{lines_from};
-ghost use Rattle.vch_state.specs.Bounds.{AreOfTasks};
-ghost use Rattle.vch_state.specs.Places.{AddsLines, Placed, spots_of};
+ghost use Rattle.std.specs.Prelude.{◌≡◌, ◌≤◌, ◌<◌, ◌+◌, ◌-◌, ◌++◌, ◌∷◌, ◌↔◌, [], ℕ, IsTrue, OnOk, OnErr, IfOk, length, slice_get, slice_set, slice_index_or};
+ghost use Rattle.std.specs.Option.{option_copied};
+ghost use Rattle.vch_model.specs.Lines.{lines_until};
+ghost use Rattle.vch_machine.specs.Next.{nth_call};
+ghost use Rattle.vch_script.specs.Places.{AddsLines, AreOfTasks, ArePlaces, spots_of};
 
 use std::alloc::Global;
 use std::marker::Model;
 use vch_base::NoMemory;
-use vch_model::{PhaseList, Scenario};
+use vch_model::{Call, PhaseList, Scenario};
 
 /// Where a line stands: its phase, and its place there, each counted from 0.
 #[derive(Clone, Copy, Debug)]
@@ -23,7 +24,7 @@ pub struct Spots {
 
 impl Model for Spots {
     ghost use Rattle.std.specs.Prelude.{List};
-    ghost use Rattle.vch_state.specs.declared.places.Spot.{Spot};
+    ghost use Rattle.vch_script.specs.declared.places.Spot.{Spot};
 
     ghost Value = { List Spot };
 
@@ -58,7 +59,7 @@ pub struct Places {
 
 impl Model for Places {
     ghost use Rattle.std.specs.Prelude.{List};
-    ghost use Rattle.vch_state.specs.declared.places.Spot.{Spot};
+    ghost use Rattle.vch_script.specs.declared.places.Spot.{Spot};
 
     ghost Value = { List (List Spot) };
 
@@ -102,6 +103,42 @@ impl Places {
         let spots = self.items.get(task as usize - 1)?;
         spots.items.get(number).copied()
     }
+
+    /// How many lines a task has. Constant time.
+    pub fn lines(&self, task: u32) -> usize
+        ensures { result ≡ length (spots_of self.now task) }
+    {
+        if task == 0 {
+            return 0;
+        }
+        match self.items.get(task as usize - 1) {
+            Some(spots) => spots.items.len(),
+            None => 0,
+        }
+    }
+
+    /// The call of a task with a number, counted from 1, or nothing where the task has no such call. The places are those of the
+    /// scenario. Constant time.
+    pub fn call<'a>(&self, scenario: &'a Scenario, task: u32, number: u32) -> Option<&'a Call>
+        requires { ArePlaces scenario.now self.now }
+        ensures { option_copied result ≡ nth_call scenario.now task number }
+    {
+        let spot = self.find(task, number.saturating_sub(1) as usize)?;
+        Some(&scenario.phases.at(spot.phase).at(spot.line).call)
+    }
+
+    /// Whether a task that has begun so many calls has another one in the phases so far, where so many phases have ended. The places
+    /// are those of the scenario. Constant time.
+    pub fn has_call(&self, scenario: &Scenario, task: u32, begun: u32, phases: u32) -> bool
+        requires { ArePlaces scenario.now self.now }
+        ensures { IsTrue result ↔ (begun < lines_until scenario.now (phases + 1) task) }
+    {
+        let _ = scenario;
+        match self.find(task, begun as usize) {
+            Some(spot) => spot.phase <= phases as usize,
+            None => false,
+        }
+    }
 }
 
 /// So many tasks without a line.
@@ -132,7 +169,7 @@ fn add_lines(places: &mut Places, phases: &PhaseList, phase: usize) -> Result<()
 /// Where the lines of each task stand. The time is linear in their number.
 pub fn places_of(alloc: Global, scenario: &Scenario) -> Result<Places, NoMemory>
     requires { AreOfTasks (length scenario.now.flags) scenario.now.phases }
-    ensures { IfOk result (λ made. Placed (length scenario.now.flags) scenario.now.phases (lines_from 1 scenario.now.phases) made) }
+    ensures { IfOk result (λ made. ArePlaces scenario.now made) }
 {
     let mut places = no_places(alloc, scenario.flags.len())?;
     for phase in 0..scenario.phases.len() {

@@ -21,7 +21,7 @@ pub struct Script {
 
 impl Model for Script {
     ghost use Rattle.vch_model.specs.declared.lists.Scenario.{Scenario};
-    ghost use Rattle.vch_state.specs.Places.{IsIndexOf};
+    ghost use Rattle.vch_script.specs.Places.{IsIndexOf};
 
     ghost Value = { Scenario };
 
@@ -87,8 +87,7 @@ impl Script {
     pub fn call(&self, task: u32, number: u32) -> Option<&Call>
         ensures { option_copied result ≡ nth_call self.now task number }
     {
-        let spot = self.places.find(task, number.saturating_sub(1) as usize)?;
-        Some(&self.scenario.phases.at(spot.phase).at(spot.line).call)
+        self.places.call(&self.scenario, task, number)
     }
 
     /// Whether a task that has begun so many calls has another one in the phases so far, where so many phases have ended.
@@ -96,9 +95,6 @@ impl Script {
     pub fn has_call(&self, task: u32, begun: u32, phases: u32) -> bool
         ensures { IsTrue result ↔ (begun < lines_until self.now (phases + 1) task) }
     {
-        match self.places.find(task, begun as usize) {
-            Some(spot) => spot.phase <= phases as usize,
-            None => false,
-        }
+        self.places.has_call(&self.scenario, task, begun, phases)
     }
 }

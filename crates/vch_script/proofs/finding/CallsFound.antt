@@ -10,8 +10,8 @@ use Rattle.vch_model.specs.declared.lists.Scenario.{Scenario}
 use Rattle.vch_model.specs.Lines.{lines_from, lines_of, line_at, lines_until}
 use Rattle.vch_machine.specs.Next.{call_in, nth_call}
 use Rattle.vch_legal.proofs.CallerLemmas.{phase_of_line, all_lines, no_lines}
-use Rattle.vch_state.specs.declared.places.Spot.{Spot}
-use Rattle.vch_state.specs.Places.{numbered, line_at_spot, spots_of, Placed}
+use Rattle.vch_script.specs.declared.places.Spot.{Spot}
+use Rattle.vch_script.specs.Places.{numbered, line_at_spot, spots_of, Placed}
 
 abbrev Numbered : Type 0
 Numbered = ℕ × Line

@@ -1,0 +1,4 @@
+pub mod OfTasks
+pub mod Loops
+pub mod Placing
+pub mod CallsFound
