@@ -131,9 +131,22 @@ most_phases = record {
   scenario = phased (plain ∷ []) (repeat 1024 ([] ∷ []));
 }
 
+-- as many tasks as there may be
+abbrev pub most_tasks : ScenarioText
+most_tasks = record {
+  text =
+      codes "vouch 1\ntasks 64\n"
+      ++ codes "task 1\ntask 2\ntask 3\ntask 4\ntask 5\ntask 6\ntask 7\ntask 8\ntask 9\ntask 10\ntask 11\ntask 12\ntask 13\ntask 14\ntask 15\ntask 16\n"
+      ++ codes "task 17\ntask 18\ntask 19\ntask 20\ntask 21\ntask 22\ntask 23\ntask 24\ntask 25\ntask 26\ntask 27\ntask 28\ntask 29\ntask 30\ntask 31\ntask 32\n"
+      ++ codes "task 33\ntask 34\ntask 35\ntask 36\ntask 37\ntask 38\ntask 39\ntask 40\ntask 41\ntask 42\ntask 43\ntask 44\ntask 45\ntask 46\ntask 47\ntask 48\n"
+      ++ codes "task 49\ntask 50\ntask 51\ntask 52\ntask 53\ntask 54\ntask 55\ntask 56\ntask 57\ntask 58\ntask 59\ntask 60\ntask 61\ntask 62\ntask 63\ntask 64\n"
+      ++ codes "phase\n64 live\nend\n";
+  scenario = scenario (repeat 64 (plain ∷ [])) (by 64 calls.Live ∷ []);
+}
+
 abbrev pub scenario_texts : List ScenarioText
 scenario_texts =
-    one_task ∷ passed_over ∷ any_comments ∷ service ∷ each_call ∷ no_calls ∷ usual_limits ∷ written_limits ∷ other_limits ∷ exits ∷ test_key_1 ∷ test_key_2 ∷ most_phases ∷ []
+    one_task ∷ passed_over ∷ any_comments ∷ service ∷ each_call ∷ no_calls ∷ usual_limits ∷ written_limits ∷ other_limits ∷ exits ∷ test_key_1 ∷ test_key_2 ∷ most_phases ∷ most_tasks ∷ []
 
 abbrev pub AreOfScenarios : Type 0
 AreOfScenarios = AllByRecursion IsOfScenario scenario_texts
