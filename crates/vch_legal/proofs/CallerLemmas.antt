@@ -4,7 +4,7 @@ pub use Rattle.vch_legal.proofs.added.AddedRuns.{run_added, legal_added, store_a
 pub use Rattle.vch_legal.proofs.spots.AskSpots.{without_here, without_other}
 pub use Rattle.vch_legal.proofs.store.AtRest.{Rests, task_rests, task_of}
 pub use Rattle.vch_legal.proofs.bounds.Bounds.{move_lowers, run_bounded}
-pub use Rattle.vch_legal.proofs.facts.Choices.{not_true, or_left, or_right}
+pub use Rattle.vch_legal.proofs.facts.Choices.{not_true, or_left, or_right, cases_bool, number_eq}
 pub use Rattle.vch_legal.proofs.sums.AcceptedCalls.{IsExtern, extern_done, IsCharge, charge_done}
 pub use Rattle.vch_legal.proofs.sums.MadeEntries.{made_value}
 pub use Rattle.vch_legal.proofs.sums.AmountEntries.{phase_uncounted, gone_uncounted, lost_uncounted, refused_uncounted, call_uncounted}
@@ -12,7 +12,7 @@ pub use Rattle.vch_legal.proofs.sums.AmountEntries.{released_amount, made_amount
 pub use Rattle.vch_legal.proofs.sums.AmountEntries.{extern_amount, extern_ledger, account_amount, account_ledger, own_amount, own_ledger}
 pub use Rattle.vch_legal.proofs.sums.Conservation.{task_range}
 pub use Rattle.vch_legal.proofs.lines.EachLine.{line_has}
-pub use Rattle.vch_legal.proofs.forming.Forming.{rest_of, LiveAt}
+pub use Rattle.vch_legal.proofs.forming.Forming.{rest_of, LiveAt, eval_bound}
 pub use Rattle.vch_legal.proofs.values.FoundValues.{append_here, append_other, found_value}
 pub use Rattle.vch_legal.proofs.values.HeldLive.{held_live, voucher_live, forming_live, names_live}
 pub use Rattle.vch_legal.proofs.facts.Keeps.{event_keeps, phase_keeps, start_keeps, refuse_keeps}
@@ -34,6 +34,14 @@ pub use Rattle.vch_legal.proofs.forming.RunsEvaluated.{run_evaluated}
 pub use Rattle.vch_legal.proofs.runs.ScheduleRuns.{none_next_rests, waiting_next, resting}
 pub use Rattle.vch_legal.proofs.seen.SeenNames.{LiveAll, same_vouchers, AllLive}
 pub use Rattle.vch_legal.proofs.seen.SeenTasks.{claims_task, member_seen}
-pub use Rattle.vch_legal.proofs.seen.SeenValues.{AtMostOnce, Each, found_place, each_of, at_most_once}
+pub use Rattle.vch_legal.proofs.seen.SeenValues.{AtMostOnce, Each, found_place, each_of, at_most_once, numbered, plain_numbered}
 pub use Rattle.vch_legal.proofs.tasks.TaskLists.{IsAmong, before, behind, all_split, all_set, flat_map_map}
 pub use Rattle.vch_legal.proofs.runs.Turns.{all_numbers, own_number, all_tasks, count_cons, lowest_some, lowest_none, number_of_all, opened_next}
+pub use Rattle.vch_legal.proofs.forming.Creates.{eval_step, reaches_step, then_eval, then_reaches, eval_other, reaches_other, reaches_bound, one_above, there_enough}
+pub use Rattle.vch_legal.proofs.seen.SeenHeld.{values_refl, values_eq, value_at_key}
+pub use Rattle.vch_legal.proofs.steps.EventSteps.{Happened, event_happens}
+pub use Rattle.vch_legal.proofs.steps.Follows.{Follows as Steps}
+pub use Rattle.vch_legal.proofs.steps.MakeSteps.{MayStep}
+pub use Rattle.vch_legal.proofs.steps.Standing.{Step}
+pub use Rattle.vch_legal.proofs.store.StoreLegal.{legal_store, call_live, answered_line}
+pub use Rattle.vch_legal.proofs.store.StoreSteps.{StoreFits, AliveGood, AllGood, equals, none_equal}

@@ -35,7 +35,7 @@ abbrev pub then_eval : ℕ → ℕ → Names → ℕ → List ℕ → Result Vou
 then_eval version n names t rest (Ok next) = eval_all version n names t next rest
 then_eval version n names t rest (Err code) = Err code
 
-abbrev then_reaches : ℕ → ℕ → Names → ℕ → List ℕ → Result Voucher ℤ → Bool
+abbrev pub then_reaches : ℕ → ℕ → Names → ℕ → List ℕ → Result Voucher ℤ → Bool
 then_reaches version n names t rest (Ok next) = reaches version n names t next rest
 then_reaches version n names t rest (Err code) = false
 
@@ -87,7 +87,7 @@ reaches_one version n names t map b r rest e =
     by_result (Ok next) = refl
     by_result (Err code) = refl
 
-eval_other : (version n : ℕ) (names : Names) (t : ℕ) (map : Voucher) (b : List ℕ) (first : First) (x : Result Voucher ℤ)
+pub eval_other : (version n : ℕ) (names : Names) (t : ℕ) (map : Voucher) (b : List ℕ) (first : First) (x : Result Voucher ℤ)
     → first_of b ≡ first
     → ◌≡◌ {A = Result Voucher ℤ} (elim first [
       | One r rest ↦ elim (eval version names t r map)
@@ -110,6 +110,30 @@ eval_other version n names t map b first x e h =
       | End ↦ Ok map
       | HeaderCut left ↦ Err KERN_INVALID_ARGUMENT
       | ContentCut wanted left ↦ Err KERN_INVALID_ARGUMENT
+    ]) x) (sym e) h
+
+-- bytes that begin with no whole record reach nothing but their end
+pub reaches_other : (version n : ℕ) (names : Names) (t : ℕ) (map : Voucher) (b : List ℕ) (first : First) (x : Bool)
+    → first_of b ≡ first
+    → ◌≡◌ {A = Bool} (elim first [
+      | One r rest ↦ asks version names r ||
+          (elim (eval version names t r map) [ Ok next ↦ reaches version n names t next rest | Err code ↦ false ])
+      | End
+          ↦ true
+      | HeaderCut left ↦ false
+      | ContentCut wanted left ↦ false
+    ]) x
+    → reaches version (suc n) names t map b ≡ x
+unfolding reaches
+reaches_other version n names t map b first x e h =
+    subst (λ (y : First). ◌≡◌ {A = Bool}
+    (elim y [
+      | One r rest ↦ asks version names r ||
+          (elim (eval version names t r map) [ Ok next ↦ reaches version n names t next rest | Err code ↦ false ])
+      | End
+          ↦ true
+      | HeaderCut left ↦ false
+      | ContentCut wanted left ↦ false
     ]) x) (sym e) h
 
 -- the fold over some bytes is one over what follows their first record
@@ -166,7 +190,7 @@ reaches_bound version (suc n) (suc k) names t map b l m =
     by_first (HeaderCut left) h = refl
     by_first (ContentCut wanted left) h = refl
 
-reaches_step : (version : ℕ) (names : Names) (t : ℕ) (map : Voucher) (b : List ℕ) (r : Recipe) (rest : List ℕ)
+pub reaches_step : (version : ℕ) (names : Names) (t : ℕ) (map : Voucher) (b : List ℕ) (r : Recipe) (rest : List ℕ)
     → first_of b ≡ One r rest → reaches version (suc (length b)) names t map b
     ≡ (asks version names r || then_reaches version (suc (length rest)) names t rest (eval version names t r map))
 reaches_step version names t map b r rest e =
