@@ -11,7 +11,7 @@ use std::thread::Threads;
 use vch_base::{Gate, NoMemory, Sink, write_all};
 
 /// The text of so many rounds, made whole.
-#[tactic(auto, unfolding(crate::specs::Text::made_text))]
+#[tactic(auto, unfolding(crate::specs::Summaries::made_text))]
 fn made_report<R: Threads + Sync, G: Gate + Sync>(
     rt: &R,
     alloc: Global,

@@ -16,7 +16,7 @@ fn push_line(out: &mut Vec<u8>, word: &[u8], n: u64) -> Result<(), NoMemory>
 }
 
 /// The text of a drill of made counts.
-#[tactic(auto, unfolding(crate::specs::Text::counts_text))]
+#[tactic(auto, unfolding(crate::specs::Summaries::counts_text))]
 pub fn counts_text(alloc: Global, rounds: u32, counts: Counts) -> Result<Vec<u8>, NoMemory>
     ensures { IfOk result (λ text. text.items ≡ counts_text rounds counts) }
 {
