@@ -12,3 +12,4 @@ pub mod Ending
 pub mod Finishing
 pub mod Drawing
 pub mod Driving
+pub mod running

@@ -27,12 +27,14 @@
 //! ```
 #![tactic(auto)]
 
+mod built;
 mod ends;
 mod order;
 mod seed;
 mod stepped;
 mod turn;
 
+pub use built::is_user_only;
 pub use ends::finish;
 pub use order::{are_tasks, drive};
 pub use seed::drive_seed;

@@ -1,4 +1,4 @@
-ghost use Rattle.std.specs.Prelude.{◌≡◌, ◌⊎◌, ℕ, List};
+ghost use Rattle.std.specs.Prelude.{◌≡◌, ◌⊎◌, ℕ, List, Some, reverse};
 ghost use Rattle.vch_report.specs.declared.report.Report.{Report};
 ghost use Rattle.vch_report.specs.WellFormed.{IsWellFormed};
 ghost use Rattle.vch_report.specs.Items.{text_of};
@@ -9,6 +9,9 @@ ghost use Rattle.vch_model.specs.declared.entry.Entry.{Entry};
 ghost use Rattle.vch_model.specs.declared.lists.Scenario.{Scenario};
 ghost use Rattle.vch_model.specs.Scenarios.{IsLimited};
 ghost use Rattle.vch_model.specs.Legal.{Legal};
+ghost use Rattle.vch_model.specs.Canonical.{IsWritable};
+ghost use Rattle.vch_machine.specs.State.{Machine};
+ghost use Rattle.vch_machine.specs.Schedules.{Move, run_from_start};
 ghost use Rattle.vch_legal.specs.Reports.{IsByteEntry};
 ghost use Rattle.vch_report.specs.OfCore.{Tells};
 
@@ -32,8 +35,11 @@ pub fn one_text()
 
 /// A legal history has a text: a report that tells of one is well formed, where its entries can be numbered in 32 bits and
 /// the content of what is made are bytes. That what such a history tells has a text is `vch_legal`'s law
-/// `legal_reports_are_well_formed`, and this is it for reports.
+/// `legal_reports_are_well_formed`, and this is it for reports. A run of a scenario that has a text makes bytes alone and is short
+/// enough, so what its history tells always has a text.
 pub fn legal_reports()
-    ensures { (sc : Scenario) (history : List Entry) (report : Report) → IsLimited sc → length history < 2 ^ 32
+    ensures legal { (sc : Scenario) (history : List Entry) (report : Report) → IsLimited sc → length history < 2 ^ 32
         → AllByRecursion IsByteEntry history → Legal history sc → Tells sc history report → IsWellFormed report }
+    ensures run { (sc : Scenario) (moves : List Move) (n : Machine) (report : Report) → IsWritable sc → run_from_start sc moves ≡ Some n
+        → Tells sc (reverse n.past) report → IsWellFormed report }
 {}

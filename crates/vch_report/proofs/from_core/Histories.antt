@@ -12,12 +12,15 @@ use Rattle.vch_model.specs.declared.entry.Entry.{Entry}
 use Rattle.vch_model.specs.declared.entry.Entry.TheVariants as entries
 use Rattle.vch_model.specs.declared.lists.Scenario.{Scenario}
 use Rattle.vch_model.specs.After.{store_of}
+use Rattle.vch_model.specs.Canonical.{IsWritable}
 use Rattle.vch_model.specs.Scenarios.{IsLimited}
 use Rattle.vch_model.specs.Legal.{CanFollow, LegalPast, Legal}
 use Rattle.vch_model.specs.Text.{totals_from}
 use Rattle.vch_model.specs.WellFormed.{IsTotal}
 use Rattle.vch_legal.specs.Reports.{IsByteEntry, IsReportable}
-use Rattle.vch_legal.proofs.CallerLemmas.{legal_reportable}
+use Rattle.vch_machine.specs.State.{Machine}
+use Rattle.vch_machine.specs.Schedules.{Move, run_from_start}
+use Rattle.vch_legal.proofs.CallerLemmas.{legal_reportable, run_reportable}
 use Rattle.vch_report.specs.declared.report.Report.{Report}
 use Rattle.vch_report.specs.WellFormed.{Making, IsWellFormed}
 use Rattle.vch_report.specs.OfCore.{HasTask, Tells}
@@ -47,11 +50,9 @@ totals_long : (sc : Scenario) (past : List Entry) (t : ℕ) (flags : List Flags)
 totals_long sc past t [] = refl
 totals_long sc past t (f ∷ flags) = ap suc (totals_long sc past (t + 1) flags)
 
--- a report that tells of a legal history has a text
-pub legal_report : (sc : Scenario) (history : List Entry) (report : Report) → IsLimited sc → length history < 2 ^ 32
-    → AllByRecursion IsByteEntry history → Legal history sc → Tells sc history report → IsWellFormed report
-legal_report sc history report limited few bytes legal tells =
-    let r : IsReportable sc history = legal_reportable sc history limited legal few bytes in
+-- a report that tells what has a text has one
+formed : (sc : Scenario) (history : List Entry) (report : Report) → IsLimited sc → IsReportable sc history → Tells sc history report → IsWellFormed report
+formed sc history report limited r tells =
     let size : length report.totals ≡ length sc.flags = ap length tells.totals ∙ totals_long sc (reverse history) 1 sc.flags in
     record {
       version = subst (λ (n : ℕ). (n ≡ 1) ⊎ (n ≡ 2)) (sym tells.version) limited.version;
@@ -62,3 +63,15 @@ legal_report sc history report limited few bytes legal tells =
       vouchers = omega (arith, tells.vouchers, r.vouchers);
       values = omega (arith, tells.values, r.values);
     }
+
+-- a report that tells of a legal history has a text
+pub legal_report : (sc : Scenario) (history : List Entry) (report : Report) → IsLimited sc → length history < 2 ^ 32
+    → AllByRecursion IsByteEntry history → Legal history sc → Tells sc history report → IsWellFormed report
+legal_report sc history report limited few bytes legal tells =
+    formed sc history report limited (legal_reportable sc history limited legal few bytes) tells
+
+-- so has one that tells of the history of a run
+pub run_report : (sc : Scenario) (moves : List Move) (n : Machine) (report : Report) → IsWritable sc → run_from_start sc moves ≡ Some n
+    → Tells sc (reverse n.past) report → IsWellFormed report
+run_report sc moves n report writable run tells =
+    formed sc (reverse n.past) report writable.limited (run_reportable sc moves n writable run) tells
