@@ -1,0 +1,16 @@
+pub mod NameRows
+pub mod Lists
+pub mod Members
+pub mod Values
+pub mod CallTurns
+pub mod Alike
+pub mod Keeping
+pub mod Effects
+pub mod Advancing
+pub mod LiveChanges
+pub mod Counting
+pub mod Held
+pub mod SeenSet
+pub mod Ends
+pub mod Sound
+pub mod CallerLemmas

@@ -1,0 +1,32 @@
+use Rattle.std.proofs.Common.{◌≤◌, ap, sym, subst, length}
+use Rattle.vch_books.specs.Audits.{Audit}
+use Rattle.vch_books.specs.Kept.{Lists, Keeps}
+use Rattle.std.specs.Prelude.{List, MatchOption}
+use Rattle.std.specs.List.{AllByRecursion}
+use Rattle.vch_base.specs.Tasks.{at_task}
+use Rattle.vch_model.specs.Legal.{EachTask}
+use Rattle.vch_script.specs.Places.{spots_of}
+use Rattle.vch_books.specs.Desks.{Desk, empty_desk}
+use Rattle.vch_books.specs.Turns.{IsShort}
+use Rattle.vch_books.specs.declared.turns.Uncalled.{Uncalled}
+use Rattle.vch_books.proofs.Ends.{all_few, match_uncalled}
+use Rattle.vch_books.proofs.books.Books.first_uncalled.Goals as goal
+
+pub first_short-requires-clause-small : goal.first_short-requires-clause-small
+first_short-requires-clause-small c =
+    let s = c.self.inside in
+    let a = c.args.self.now in
+    let l : Lists = record { tasks = s.tasks.items; live = s.live.items; phases = s.phases; places = s.places; sums = s.sums } in
+    let k : Keeps a l = subst (λ (x : Audit). Keeps x l) c.self.view_is c.self.invariant in
+    let own = ap (λ (x : Audit). x.history) c.self.view_is in
+    subst (λ (ts : List Desk). AllByRecursion (λ (d : Desk). d.begun ≤ 16384) ts) (sym c.as_slice.ensures.value) (all_few a l k)
+
+pub returns : goal.returns
+returns c =
+    let s = c.self.inside in
+    let a = c.args.self.now in
+    let l : Lists = record { tasks = s.tasks.items; live = s.live.items; phases = s.phases; places = s.places; sums = s.sums } in
+    let k : Keeps a l = subst (λ (x : Audit). Keeps x l) c.self.view_is c.self.invariant in
+    let own = ap (λ (x : Audit). x.history) c.self.view_is in
+    match_uncalled a l c.first_short.result k
+    (subst (λ (ts : List Desk). MatchOption c.first_short.result (EachTask (length ts) (λ t. length (spots_of s.places t) ≤ (at_task ts t empty_desk).begun)) (λ (u : Uncalled). IsShort s.places ts u.task u.number)) c.as_slice.ensures.value c.first_short.ensures)

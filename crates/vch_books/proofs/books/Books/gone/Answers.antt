@@ -1,0 +1,42 @@
+use Rattle.std.proofs.Common.{ap, sym, ◌∙◌, subst, refl}
+use Rattle.vch_books.specs.Audits.{Audit}
+use Rattle.vch_books.specs.Kept.{Lists, Keeps}
+use Rattle.std.specs.Prelude.{List}
+use Rattle.vch_base.specs.Tasks.{at_task, set_task}
+use Rattle.vch_model.specs.declared.entry.Entry.TheVariants as entries
+use Rattle.vch_model.specs.Store.{Store}
+use Rattle.vch_model.specs.After as after
+use Rattle.vch_books.specs.Desks as desks
+use Rattle.vch_books.specs.Desks.{Desk, empty_desk}
+use Rattle.vch_books.specs.Audits.{advanced, IsNext}
+use Rattle.vch_books.specs.Going.{Goes}
+use Rattle.vch_books.proofs.Effects.{gone_goes, gone_is}
+use Rattle.vch_books.proofs.Advancing.{keeps_goes, exit_within}
+use Rattle.vch_model.specs.declared.call.Call.TheVariants as calls
+use Rattle.vch_books.proofs.books.Books.gone.Goals as goal
+
+pub give_up_at-requires : goal.give_up_at-requires
+give_up_at-requires c =
+    let s = c.self.inside in
+    let a : Audit = record { scenario = s.scenario.now; history = s.history.now.entries; taken = s.taken } in
+    let l : Lists = record { tasks = s.tasks.items; live = s.live.items; phases = s.phases; places = s.places; sums = s.sums } in
+    let h = a.history in
+    let t = c.args.task in
+    let k : Keeps a l = c.self.invariant in
+    let n : IsNext a (entries.Gone t c.args.name) = subst (λ (x : Audit). IsNext x (entries.Gone t c.args.name)) (sym c.self.view_is) c.requires.next in
+    let w = exit_within a l t calls.Exit k n.follows.0 in
+    w
+
+pub invariant_of-self : goal.invariant_of-self
+invariant_of-self c =
+    let s = c.self.inside in
+    let a : Audit = record { scenario = s.scenario.now; history = s.history.now.entries; taken = s.taken } in
+    let l : Lists = record { tasks = s.tasks.items; live = s.live.items; phases = s.phases; places = s.places; sums = s.sums } in
+    let h = a.history in
+    let t = c.args.task in
+    let k : Keeps a l = c.self.invariant in
+    let n : IsNext a (entries.Gone t c.args.name) = subst (λ (x : Audit). IsNext x (entries.Gone t c.args.name)) (sym c.self.view_is) c.requires.next in
+    let w = exit_within a l t calls.Exit k n.follows.0 in
+    let m : List Desk = set_task l.tasks t (record (at_task l.tasks t empty_desk) { names = desks.without_name (at_task l.tasks t empty_desk).names c.args.name }) in
+    let g : Goes h l.live l.tasks m = gone_goes h l.live l.tasks t c.args.name w in
+    subst (λ (ts : List Desk). Keeps (advanced a) (record l { tasks = ts })) (sym c.give_up_at.ensures) (keeps_goes a l m (entries.Gone t c.args.name) k g n (ap (λ (x : Store). after.gone x t c.args.name) k.store ∙ gone_is h l.live l.tasks t c.args.name) (λ u. refl) refl refl)

@@ -1,0 +1,13 @@
+use Rattle.std.proofs.Common.{subst}
+use Rattle.vch_books.specs.Audits.{Audit}
+use Rattle.vch_books.specs.Kept.{Lists, Keeps}
+use Rattle.vch_books.proofs.Sound.{sound_kept}
+use Rattle.vch_books.proofs.books.Books.know.Goals as goal
+
+pub returns : goal.returns
+returns c =
+    let s = c.self.inside in
+    let a = c.args.self.now in
+    let l : Lists = record { tasks = s.tasks.items; live = s.live.items; phases = s.phases; places = s.places; sums = s.sums } in
+    let k : Keeps a l = subst (λ (x : Audit). Keeps x l) c.self.view_is c.self.invariant in
+    sound_kept a l k

@@ -1,0 +1,4 @@
+pub mod Phases
+pub mod TaskTotals
+pub mod Verdicts
+pub mod Apart

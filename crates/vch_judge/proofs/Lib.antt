@@ -1,0 +1,12 @@
+pub mod Keys
+pub mod FormedVouchers
+pub mod Changed
+pub mod Reading
+pub mod Creating
+pub mod Transfers
+pub mod Owning
+pub mod Sending
+pub mod Judging
+pub mod Carrying
+pub mod Tasks
+pub mod Histories
