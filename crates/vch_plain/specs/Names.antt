@@ -1,8 +1,18 @@
--- What becomes of a list of names.
-use Rattle.std.specs.Prelude.{◌≡◌, ◌⊎◌, ◌<◌, ◌≤◌, ◌-◌, ◌++◌, ℕ, suc, List, take, drop, slice_set, slice_index_or}
-use Rattle.vch_plain.specs.declared.state.Named.{Named}
+-- Where a name stands among the names of a task.
+use Rattle.std.specs.Prelude.{◌≡◌, ◌<◌, ℕ, zero, suc, ◌==◌, true, false, List, [], ◌∷◌, length, Option, Some, None}
+use Rattle.vch_machine.specs.State.{Named}
 
--- the name at a place has a reference less, or is gone
-abbrev pub IsLess : List Named → ℕ → List Named → Type 0
-IsLess old i new = (n : Named) × (n ≡ slice_index_or old i n)
-    × (((1 < n.refs) × (new ≡ slice_set old i (record n { refs = n.refs - 1 }))) ⊎ ((n.refs ≤ 1) × (new ≡ take i old ++ drop (suc i) old)))
+-- the first entry with the name stands at the place, counted from 0
+abbrev pub StandsAt : List Named → ℕ → ℕ → Type 0
+StandsAt [] name i = ⊥
+StandsAt (n ∷ names) name zero = (n.name == name) ≡ true
+StandsAt (n ∷ names) name (suc i) = ((n.name == name) ≡ false) × StandsAt names name i
+
+-- no entry has the name
+abbrev pub HasNone : List Named → ℕ → Type 0
+HasNone [] name = Unit {0}
+HasNone (n ∷ names) name = ((n.name == name) ≡ false) × HasNone names name
+
+abbrev pub IsPosition : List Named → ℕ → Option ℕ → Type 0
+IsPosition names name None = HasNone names name
+IsPosition names name (Some i) = (i < length names) × StandsAt names name i

@@ -1,101 +1,139 @@
-ghost use Rattle.std.specs.Prelude.{◌≡◌, ◌<◌, ◌+◌, length, slice_index_or, [], IfOk, OnOk};
-ghost use Rattle.vch_model.specs.Legal.{Whole};
+ghost use Rattle.std.specs.Prelude.{◌≡◌, [], ◌∷◌, IfOk, map};
+ghost use Rattle.vch_base.specs.declared.flags.Flags.{Flags};
 ghost use Rattle.vch_model.specs.Scenarios.{IsLimited};
-ghost use Rattle.vch_model.specs.UserOnly.{IsUserOnly};
-ghost use Rattle.vch_machine.specs.Frames.{noted};
+ghost use Rattle.vch_machine.specs.EndedRuns.{IsBySeed};
 ghost use Rattle.vch_machine.specs.PlainRuns.{IsPlainRun};
-ghost use Rattle.vch_machine.specs.State as machine;
-ghost use Rattle.vch_machine.specs.State.{Tally};
-ghost use Rattle.vch_plain.specs.Serving.{Came, IsAt};
-ghost use Rattle.vch_plain.specs.States.{state_of};
+ghost use Rattle.vch_machine.specs.State as state;
+ghost use Rattle.vch_plain.specs.Played.{IsTold};
+ghost use Rattle.vch_plain.specs.Turning.{IsGoing};
 
-use crate::serve::serve;
-use crate::state::{Plain, Task};
+use crate::handles::Place;
+use crate::machine::{Machine, Tally};
+use crate::played::Played;
+use crate::run::Run;
+use crate::seed::finish_by_seed;
+use crate::task::Tasked;
+use crate::told::tell;
+use crate::turn::finish;
+use crate::values::{Living, Pool, Pools};
 use std::alloc::Global;
-use vch_base::NoMemory;
-use vch_model::{Entry, History, Scenario};
+use vch_base::{Key, NoMemory, Value};
+use vch_model::{FlagList, History, Scenario};
+use vch_script::places_of;
+use vch_sums::Sums;
 
-/// The state before the first call.
-fn start(alloc: Global, scenario: &Scenario) -> Result<Plain, NoMemory>
-    ensures { (counted : Tally) → IfOk result (λ plain. state_of plain counted ≡ record (machine.start scenario.now) { tally = counted }) }
+/// The tasks at the start.
+fn start_tasks(alloc: Global, flags: &FlagList) -> Result<Vec<Tasked>, NoMemory>
+    ensures { IfOk result (λ made. made.items ≡ map (λ (f : Flags). state.idle) flags.now) }
 {
     let mut tasks = Vec::new(alloc);
-    for _task in 0..scenario.flags.len() {
-        tasks.push(Task {
-            names: Vec::new(alloc),
-            next: 1,
-            begun: 0,
-        })?;
+    for _task in 0..flags.len() {
+        tasks.push(Tasked::idle(alloc))?;
     }
-    Ok(Plain {
-        live: Vec::new(alloc),
+    Ok(tasks)
+}
+
+/// The handles of a key at the start, of which so many are used.
+fn start_pool(alloc: Global, used: u32) -> Pool
+    ensures { result ≡ record { free = []; used = used } }
+{
+    Pool {
         free: Vec::new(alloc),
-        used: 0,
+        used,
+    }
+}
+
+/// The live values at the start: Default alone.
+fn start_live(alloc: Global) -> Result<Vec<Living>, NoMemory>
+    ensures { IfOk result (λ made. made.items ≡ state.default_living ∷ []) }
+{
+    let mut live = Vec::new(alloc);
+    live.push(Living {
+        place: Place {
+            key: Key::Bank,
+            handle: 0,
+        },
+        value: Value::Default,
+        made: 0,
+    })?;
+    Ok(live)
+}
+
+/// The state at the start.
+fn start(alloc: Global, scenario: &Scenario) -> Result<Machine, NoMemory>
+    ensures { IfOk result (λ made. made ≡ state.start scenario.now) }
+{
+    let live = start_live(alloc)?;
+    let tasks = start_tasks(alloc, &scenario.flags)?;
+    Ok(Machine {
+        live,
+        pools: Pools {
+            importance: start_pool(alloc, 0),
+            bank: start_pool(alloc, 1),
+            user: start_pool(alloc, 0),
+            test: start_pool(alloc, 0),
+        },
         tasks,
         history: History::new(alloc),
+        tally: Tally {
+            claims: 0,
+            refers: 0,
+            asks: 0,
+        },
     })
 }
 
-/// One line of a phase.
-fn play_line(
-    plain: &mut Plain,
-    alloc: Global,
-    scenario: &Scenario,
-    phase: usize,
-    line: usize,
-) -> Result<(), NoMemory>
-    requires user { IsUserOnly scenario.now }
+/// A run before its first move.
+fn begin(alloc: Global, scenario: &Scenario) -> Result<Run, NoMemory>
     requires limited { IsLimited scenario.now }
-    requires phase { phase < length scenario.now.phases }
-    requires inside { line < length (slice_index_or scenario.now.phases phase []) }
-    requires at { IsAt scenario.now phase line plain.old }
-    ensures { OnOk result (Came scenario.now phase (line + 1) plain.old plain.new) }
+    ensures going { IfOk result (λ run. IsGoing scenario.now run) }
+    ensures start { IfOk result (λ run. run.machine ≡ state.start scenario.now) }
 {
-    let next = scenario.phases.at(phase).at(line);
-    serve(plain, alloc, next.task, &next.call)
+    let machine = start(alloc, scenario)?;
+    let sums = Sums::start(alloc, scenario)?;
+    Ok(Run {
+        machine,
+        sums,
+        phases: 0,
+    })
 }
 
-/// The end of a phase.
-fn end_phase(plain: &mut Plain) -> Result<(), NoMemory>
-    ensures { (counted : Tally) → OnOk result (state_of plain.new counted ≡ noted (state_of plain.old counted) Entry.Phase) }
-{
-    plain.history.reserve(1)?;
-    plain.history.push(Entry::Phase);
-    Ok(())
-}
-
-/// The lines of a phase in their order, and its end.
-fn play_phase(
-    plain: &mut Plain,
-    alloc: Global,
-    scenario: &Scenario,
-    phase: usize,
-) -> Result<(), NoMemory>
-    requires user { IsUserOnly scenario.now }
-    requires limited { IsLimited scenario.now }
-    requires phase { phase < length scenario.now.phases }
-    requires at { IsAt scenario.now phase 0 plain.old }
-    ensures { OnOk result (Came scenario.now (phase + 1) 0 plain.old plain.new) }
-{
-    for line in 0..scenario.phases.at(phase).len() {
-        play_line(plain, alloc, scenario, phase, line)?;
-    }
-    end_phase(plain)
-}
-
-/// The history of a scenario in turn, on plain lists and with every holder looked for among all names: no counts and no
-/// tables. The one error is out of memory, or of a number for what is counted; no call is answered it.
+/// Plays a scenario in turn, to the end of its last phase: the lowest task that has a call under way goes on, else the task of
+/// the first line of the phase that was not begun. No call is answered out of memory.
 ///
-/// It takes, for each value that is let go, time linear in the number of all names.
-pub fn play_plain(alloc: Global, scenario: &Scenario) -> Result<History, NoMemory>
-    requires built { IsUserOnly scenario.now }
-    requires limited { IsLimited scenario.now }
-    ensures history { IfOk result (λ history. IsPlainRun scenario.now history.entries) }
-    ensures whole { IfOk result (λ history. Whole history.entries scenario.now) }
+/// It takes the time of the events, and for each of them time linear in the number of tasks, names, messages and live values.
+///
+/// # Errors
+///
+/// Out of memory, or of a number for what is counted.
+pub fn play_plain(alloc: Global, scenario: &Scenario) -> Result<Played, NoMemory>
+    requires limits { IsLimited scenario.now }
+    ensures history { IfOk result (λ p. IsPlainRun scenario.now p.history.entries) }
+    ensures told { IfOk result (λ p. IsTold scenario.now p) }
 {
-    let mut plain = start(alloc, scenario)?;
-    for phase in 0..scenario.phases.len() {
-        play_phase(&mut plain, alloc, scenario, phase)?;
-    }
-    Ok(plain.history)
+    let places = places_of(alloc, scenario)?;
+    let mut run = begin(alloc, scenario)?;
+    finish(&mut run, alloc, scenario, &places)?;
+    let Run { machine, sums, .. } = run;
+    tell(alloc, machine, &sums, scenario)
+}
+
+/// Plays a scenario by the schedule of a seed, to the end of its last phase: each event is that of a task which the seed chooses
+/// among those that have one. No call is answered out of memory.
+///
+/// It takes the time of [`play_plain`].
+///
+/// # Errors
+///
+/// Out of memory, or of a number for what is counted.
+pub fn play_seed(alloc: Global, scenario: &Scenario, seed: u64) -> Result<Played, NoMemory>
+    requires limits { IsLimited scenario.now }
+    ensures history { IfOk result (λ p. IsBySeed seed scenario.now p.history.entries) }
+    ensures told { IfOk result (λ p. IsTold scenario.now p) }
+{
+    let places = places_of(alloc, scenario)?;
+    let mut run = begin(alloc, scenario)?;
+    finish_by_seed(&mut run, alloc, scenario, &places, seed)?;
+    let Run { machine, sums, .. } = run;
+    tell(alloc, machine, &sums, scenario)
 }

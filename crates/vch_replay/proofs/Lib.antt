@@ -1,4 +1,8 @@
 pub mod Joined
 pub mod Ends
 pub mod Grammars
+pub mod Certified
+pub mod Loading
+pub mod PlainPlayed
 pub mod Played
+pub mod TwoTexts

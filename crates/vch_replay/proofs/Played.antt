@@ -44,7 +44,7 @@ ends_with sc moves p same over r =
       history_is = s.history;
     }
 
-whole_of : (sc : Scenario) (moves : List Move) (history : List Entry) → EndsWith sc moves history → Whole history sc
+pub whole_of : (sc : Scenario) (moves : List Move) (history : List Entry) → EndsWith sc moves history → Whole history sc
 whole_of sc moves history e = subst (λ h. Whole h sc) (sym e.history_is) (run_whole sc moves e.m e.run e.ended)
 
 text_is : (sc : Scenario) (history : List Entry) (report : Report) (text : List ℕ) → Tells sc history report → text ≡ text_of report → text ≡ Text history sc

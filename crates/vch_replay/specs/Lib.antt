@@ -1,4 +1,7 @@
 pub mod Input
 pub mod Commands
 pub mod Lines
+pub mod Loads
+pub mod TwoTexts
+pub mod Judged
 pub mod Run

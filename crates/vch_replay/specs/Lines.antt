@@ -35,10 +35,6 @@ message_why message_faults.Disposition = codes "disposition"
 abbrev pub message_fault : ℕ → MessageFault → List ℕ
 message_fault line why = codes "fault line" ++ spaced line ++ codes " why " ++ message_why why ++ newline
 
--- a scenario that can't be run yet
-abbrev pub not_built : List ℕ
-not_built = codes "fault not built" ++ newline
-
 abbrev pub size_fault : ℕ → List ℕ
 size_fault size = codes "fault size" ++ spaced size ++ newline
 

@@ -10,7 +10,6 @@ use Rattle.vch_model.specs.declared.entry.Entry.{Entry}
 use Rattle.vch_model.specs.declared.lists.Scenario.{Scenario}
 use Rattle.vch_model.specs.Scenarios.{IsScenario}
 use Rattle.vch_model.specs.Canonical.{Canon}
-use Rattle.vch_model.specs.UserOnly.{IsUserOnly}
 use Rattle.vch_model.specs.Legal.{Whole}
 use Rattle.vch_machine.specs.PlainRuns.{TellNoWant, IsPlainRun}
 use Rattle.vch_machine.specs.EndedRuns.{IsInTurn, IsBySeed}
@@ -19,9 +18,13 @@ use Rattle.vch_header.specs.Messages.{IsTranslation, IsRefusedAt}
 use Rattle.vch_header.specs.declared.fault.MessageFault.{MessageFault}
 use Rattle.vch_scenario.specs.Faults as scenario_faults
 use Rattle.vch_scenario.specs.declared.fault.Why.{Why}
+use Rattle.vch_replay.specs.Commands.{Reads}
 use Rattle.vch_replay.specs.Input.{limit}
+use Rattle.vch_replay.specs.Judged.{IsVerdictOn, IsReportFault, IsCertified, IsUncertified, IsPair}
+use Rattle.vch_replay.specs.Loads.{IsSummary}
+use Rattle.vch_replay.specs.TwoTexts.{scenario_part}
 use Rattle.vch_base.specs.Stream.{WritesPrefix}
-use Rattle.vch_replay.specs.Lines.{recipe_text, scenario_fault, message_fault, not_built, recipe_fault}
+use Rattle.vch_replay.specs.Lines.{recipe_text, scenario_fault, message_fault, recipe_fault}
 use Rattle.vch_replay.specs.declared.command.Command.{Command}
 use Rattle.vch_replay.specs.declared.command.Command.TheVariants as commands
 use Rattle.vch_replay.specs.declared.outcome.Outcome.{Outcome}
@@ -60,7 +63,7 @@ IsPlayed (Some seed) sc text = IsSeedReport seed sc text
 
 -- the text is such a report of the scenario that the input gives
 abbrev pub IsReport : Option ℕ → List ℕ → List ℕ → Type 0
-IsReport seed input text = (sc : Scenario) × IsScenario input sc × IsUserOnly sc × IsPlayed seed sc text
+IsReport seed input text = (sc : Scenario) × IsScenario input sc × IsPlayed seed sc text
 
 -- the input is an array of these records
 abbrev pub IsArray : List ℕ → List Recipe → Type 0
@@ -77,14 +80,12 @@ IsOutput commands.Play input text = IsReport None input text
 IsOutput (commands.PlaySeed seed) input text = IsReport (Some seed) input text
 IsOutput commands.Recipe input text = IsListing input text
 IsOutput commands.Header input text = IsTranslation input text
+IsOutput commands.Certify input text = IsCertified input text
+IsOutput (commands.Load n) input text = IsSummary n text
 
 -- the line tells the first fault of the scenario's text
 abbrev pub IsScenarioFault : List ℕ → List ℕ → Type 0
 IsScenarioFault input line = (at : ℕ) × (why : Why) × scenario_faults.IsFault input at why × (line ≡ scenario_fault at why)
-
--- a scenario that can't be run yet
-abbrev pub IsNotBuilt : List ℕ → List ℕ → Type 0
-IsNotBuilt input line = (sc : Scenario) × IsScenario input sc × (IsUserOnly sc → ⊥) × (line ≡ not_built)
 
 -- why the input is no array
 abbrev pub IsArrayFault : List ℕ → RecipeFault → Type 0
@@ -103,23 +104,32 @@ IsMessageFault input line = (at : ℕ) × (why : MessageFault) × IsRefusedAt in
 -- the line that a command writes where the input is not in its grammar
 abbrev pub Refuses : Command → List ℕ → List ℕ → Type 0
 Refuses commands.Check input line = IsScenarioFault input line
-Refuses commands.Play input line = IsScenarioFault input line ⊎ IsNotBuilt input line
-Refuses (commands.PlaySeed seed) input line = IsScenarioFault input line ⊎ IsNotBuilt input line
+Refuses commands.Play input line = IsScenarioFault input line
+Refuses (commands.PlaySeed seed) input line = IsScenarioFault input line
 Refuses commands.Recipe input line = IsRecipeFault input line
 Refuses commands.Header input line = IsMessageFault input line
+Refuses commands.Certify input line = IsScenarioFault (scenario_part input) line ⊎ IsUncertified input line
+Refuses (commands.Load n) input line = ⊥
 
 -- what a command comes to
 abbrev pub Comes : Command → List ℕ → Outcome → Type 0
 Comes command input (outcomes.Answered text) = IsOutput command input text.items
 Comes command input (outcomes.Refused line) = Refuses command input line.items
 
+-- what `certify` comes to for the text behind a scenario
+abbrev pub IsJudged : Scenario → List ℕ → Outcome → Type 0
+IsJudged sc text (outcomes.Answered line) = IsVerdictOn sc text line.items
+IsJudged sc text (outcomes.Refused line) = IsReportFault text line.items
+
 -- the input is in the command's grammar
 abbrev pub IsIn : Command → List ℕ → Type 0
 IsIn commands.Check input = (sc : Scenario) × IsScenario input sc
-IsIn commands.Play input = (sc : Scenario) × IsScenario input sc × IsUserOnly sc
-IsIn (commands.PlaySeed seed) input = (sc : Scenario) × IsScenario input sc × IsUserOnly sc
+IsIn commands.Play input = (sc : Scenario) × IsScenario input sc
+IsIn (commands.PlaySeed seed) input = (sc : Scenario) × IsScenario input sc
 IsIn commands.Recipe input = (records : List Recipe) × IsArray input records
 IsIn commands.Header input = (text : List ℕ) × IsTranslation input text
+IsIn commands.Certify input = IsPair input
+IsIn (commands.Load n) input = ⊥
 
 -- the answer to the input was written, whole
 abbrev pub WritesAnswer : Option Command → List ℕ → Option (List ℕ) → Option (List ℕ) → Type 0
@@ -137,8 +147,22 @@ WritesPart None input old new = ⊥
 WritesPart (Some command) input old new =
     (text : List ℕ) × (IsOutput command input text ⊎ Refuses command input text) × (length input ≤ limit) × WritesPrefix old new text
 
--- the words are a form, and the input is short and in its grammar
+-- the input is short and in the command's grammar
+abbrev pub IsGoodInput : Command → Option (List ℕ) → Type 0
+IsGoodInput command None = ⊥
+IsGoodInput command (Some input) = IsIn command input × (length input ≤ limit)
+
+-- the words are a form, and the input, where it is read, is good
 abbrev pub IsGood : Option Command → Option (List ℕ) → Type 0
 IsGood None input = ⊥
-IsGood (Some command) None = ⊥
-IsGood (Some command) (Some input) = IsIn command input × (length input ≤ limit)
+IsGood (Some command) input = Reads command → IsGoodInput command input
+
+-- `load` reads nothing: its text was written, whole
+abbrev pub WritesSummary : Option Command → Option (List ℕ) → Option (List ℕ) → Type 0
+WritesSummary (Some (commands.Load n)) old new = (text : List ℕ) × IsSummary n text × Extends old new text
+WritesSummary words old new = Unit {0}
+
+-- a prefix of it was written
+abbrev pub WritesSummaryPart : Option Command → Option (List ℕ) → Option (List ℕ) → Type 0
+WritesSummaryPart (Some (commands.Load n)) old new = (text : List ℕ) × IsSummary n text × WritesPrefix old new text
+WritesSummaryPart words old new = Unit {0}

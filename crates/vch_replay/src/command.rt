@@ -1,6 +1,6 @@
 ghost use Rattle.std.specs.Prelude.{◌≡◌, ◌^◌, map, string_bytes};
 ghost use Rattle.vch_report.specs.Numerals.{below};
-ghost use Rattle.vch_replay.specs.Commands.{command_of, command_in, seeded};
+ghost use Rattle.vch_replay.specs.Commands.{command_of, command_in, numbered};
 
 use vch_text::parse_u64;
 
@@ -17,6 +17,10 @@ pub enum Command {
     Recipe,
     /// A text with a `send` in the place of each line that spells a message header.
     Header,
+    /// The verdict on a report that stands behind its scenario.
+    Certify,
+    /// The summary of a run in turn of the scenario that is drawn from a number. It reads nothing.
+    Load { n: u64 },
 }
 
 /// The command of one word.
@@ -36,26 +40,36 @@ fn command_in(word: &str) -> Option<Command>
     if word == "header" {
         return Some(Command::Header);
     }
+    if word == "certify" {
+        return Some(Command::Certify);
+    }
     None
 }
 
-/// The seed that a word spells: a decimal number below 2 to the 64 without leading zeros.
-fn seed_in(word: &str) -> Option<u64>
+/// The number that a word spells: a decimal number below 2 to the 64 without leading zeros.
+fn number_in(word: &str) -> Option<u64>
     ensures { result ≡ below (2 ^ 64) word.now }
 {
     let n = parse_u64(word.as_bytes())?;
     Some(n)
 }
 
-/// The command of two words: a run by a seed.
-#[tactic(auto, unfolding(crate::specs::Commands::seeded))]
-fn seeded(word: &str, seed: &str) -> Option<Command>
-    ensures { result ≡ seeded word.now seed.now }
+/// The command of two words: a run by a seed, or a generated scenario.
+#[tactic(auto, unfolding(crate::specs::Commands::numbered))]
+fn numbered(word: &str, number: &str) -> Option<Command>
+    ensures { result ≡ numbered word.now number.now }
 {
     let plays = word == "play";
     if plays {
-        return match seed_in(seed) {
+        return match number_in(number) {
             Some(seed) => Some(Command::PlaySeed { seed }),
+            None => None,
+        };
+    }
+    let loads = word == "load";
+    if loads {
+        return match number_in(number) {
+            Some(n) => Some(Command::Load { n }),
             None => None,
         };
     }
@@ -68,7 +82,7 @@ pub fn command_of(words: &[String]) -> Option<Command>
 {
     match words {
         [word] => command_in(word.as_str()),
-        [word, seed] => seeded(word.as_str(), seed.as_str()),
+        [word, number] => numbered(word.as_str(), number.as_str()),
         _ => None,
     }
 }

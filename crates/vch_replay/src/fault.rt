@@ -30,12 +30,3 @@ pub fn scenario_line(alloc: Global, line: u32, why: Why) -> Result<Vec<u8>, NoMe
     push_text(&mut out, b"\n")?;
     Ok(out)
 }
-
-/// The line for a scenario that can't be run yet.
-pub fn not_built_line(alloc: Global) -> Result<Vec<u8>, NoMemory>
-    ensures { IfOk result (λ text. text.items ≡ lines.not_built) }
-{
-    let mut out = Vec::new(alloc);
-    push_text(&mut out, b"fault not built\n")?;
-    Ok(out)
-}

@@ -11,12 +11,15 @@ mod command;
 mod fault;
 mod header;
 mod input;
+mod judging;
 mod listing;
+mod load;
 mod outcome;
 mod play;
 mod recipe;
 mod run;
 mod steady;
+mod two_texts;
 
 pub use command::Command;
 pub use run::run_plain;
@@ -25,4 +28,8 @@ pub use steady::run_steady;
 #[cfg(test)]
 mod order_tests;
 #[cfg(test)]
+mod row_tests;
+#[cfg(test)]
 mod tests;
+#[cfg(test)]
+mod verdict_tests;

@@ -6,9 +6,9 @@ ghost use Rattle.vch_model.specs.UserOnly.{IsUserOnly};
 use std::alloc::Global;
 use std::test::Fail;
 use vch_base::Kind;
-use vch_core::{Stepped, are_tasks, drive, finish, step};
+use vch_core::{Stepped, are_tasks, drive, finish, is_user_only, step};
 use vch_model::Scenario;
-use vch_plain::{is_user_only, play_plain};
+use vch_plain::play_plain;
 use vch_report::report_of;
 use vch_state::Core;
 
@@ -103,11 +103,8 @@ fn worked_orders(rt: HostRuntime) -> Result<(), Fail> {
 fn plain_entries(alloc: Global, scenario: &Scenario) -> Result<usize, Fail>
     requires { IsWritable scenario.now }
 {
-    if !is_user_only(scenario) {
-        return Err(Fail::new("not only creates and drops"));
-    }
-    let history = play_plain(alloc, scenario)?;
-    Ok(history.len())
+    let played = play_plain(alloc, scenario)?;
+    Ok(played.history.len())
 }
 
 /// In turn each value is released before it is made again.

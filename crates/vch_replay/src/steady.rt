@@ -1,9 +1,9 @@
 //! The top call over ends in memory that never fail.
 ghost use Rattle.std.specs.Prelude.{◌≡◌, ◌≢◌, ◌⊎◌, ◌↔◌, ◌<◌, ◌≤◌, ◌+◌, length, map, None, Some, string_bytes};
 ghost use Rattle.vch_base.specs.Memory.{told};
-ghost use Rattle.vch_replay.specs.Commands.{command_of};
+ghost use Rattle.vch_replay.specs.Commands.{WordsRead, command_of};
 ghost use Rattle.vch_replay.specs.Input.{limit};
-ghost use Rattle.vch_replay.specs.Run.{WritesAnswer, WritesRefusal, IsGood};
+ghost use Rattle.vch_replay.specs.Run.{IsGood, WritesAnswer, WritesRefusal, WritesSummary};
 
 use crate::run::run_plain;
 use std::alloc::Global;
@@ -17,7 +17,8 @@ pub fn run_steady(
     source: &mut SteadySource,
     sink: &mut SteadySink,
 ) -> u8
-    ensures answered { result ≡ 0 → WritesAnswer (command_of (map string_bytes words.now)) source.old (told sink.old) (told sink.new) }
+    ensures answered { WordsRead (command_of (map string_bytes words.now)) → result ≡ 0 → WritesAnswer (command_of (map string_bytes words.now)) source.old (told sink.old) (told sink.new) }
+    ensures loaded { result ≡ 0 → WritesSummary (command_of (map string_bytes words.now)) (told sink.old) (told sink.new) }
     ensures words { (result ≡ 1) ↔ (command_of (map string_bytes words.now) ≡ None) }
     ensures refused { result ≡ 2 → WritesRefusal (command_of (map string_bytes words.now)) source.old (told sink.old) (told sink.new) }
     ensures no_read_fault { result ≢ 3 }

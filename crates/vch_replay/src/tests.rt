@@ -109,25 +109,6 @@ const CASES: &[Case] = &[
         status: 0,
         output: "report 1\nphase\nphase\ntask 1 ledger 0 held 0 out 0\nvouchers 0 values 1\nend\n",
     },
-    // A record that asks another manager, and any other call, can't be run yet.
-    Case {
-        words: &["play"],
-        input: b"vouch 1\ntasks 1\ntask 1\nphase\n1 create 02000000c80000000000000000000000\nend\n",
-        status: 2,
-        output: "fault not built\n",
-    },
-    Case {
-        words: &["play"],
-        input: b"vouch 1\ntasks 1\ntask 1\nphase\n1 create ffffffff0a0000000000000000000000\nend\n",
-        status: 2,
-        output: "fault not built\n",
-    },
-    Case {
-        words: &["play", "7"],
-        input: b"vouch 1\ntasks 1\ntask 1\nphase\n1 live\nend\n",
-        status: 2,
-        output: "fault not built\n",
-    },
     // The first 20 bytes, all bytes but the last, and bytes that are no text.
     Case {
         words: &["play"],
@@ -283,6 +264,50 @@ const CASES: &[Case] = &[
         input: b"vouch 1\ntasks 2\ntask 1 donor\ntask 2 receiver\nphase\n1 create 0300000062020000000000000000000002000000c8000000000000000000000007000000d300000000000000020000006162\n1 message 130013001800000002000000000000000100000009000000\n1 drop 1\n2 recv\n2 charge 1 1200\n2 assertions\n2 drop 1\nphase\n1 ledger\nend\n",
         status: 0,
         output: "vouch 1\ntasks 2\ntask 1 donor\ntask 2 receiver\nphase\n1 create 0300000062020000000000000000000002000000c8000000000000000000000007000000d300000000000000020000006162\n1 send 2 copy 1 9\n1 drop 1\n2 recv\n2 charge 1 1200\n2 assertions\n2 drop 1\nphase\n1 ledger\nend\n",
+    },
+    // Two texts behind one another: a line has no call; there is no end of the scenario; the scenario has a fault.
+    Case {
+        words: &["certify"],
+        input: b"vouch 1\ntasks 1\ntask 1\nphase\n1 live\nend\nreport 1\ntask 1 ledger 0 held 0 out 0\nvouchers 0 values 1\nend\n",
+        status: 0,
+        output: "not call 1 1\n",
+    },
+    Case {
+        words: &["certify"],
+        input: b"vouch 1\ntasks 1\n",
+        status: 2,
+        output: "fault line 3 why ending\n",
+    },
+    Case {
+        words: &["certify"],
+        input: b"vouch 1\ntasks 65\nend\nreport 1\n",
+        status: 2,
+        output: "fault line 2 why range\n",
+    },
+    // The summaries of two numbers. Nothing is read.
+    Case {
+        words: &["load", "1"],
+        input: b"",
+        status: 0,
+        output: "load 1\ncalls 8192\nrefused 0\nmade 5120\nreleased 5120\ncredited 523776\ntask 1 ledger 62990\ntask 2 ledger 70404\ntask 3 ledger 74269\ntask 4 ledger 66637\ntask 5 ledger 64729\ntask 6 ledger 58158\ntask 7 ledger 60622\ntask 8 ledger 65967\nvouchers 0\nvalues 1\nend\n",
+    },
+    Case {
+        words: &["load", "7"],
+        input: b"\xff",
+        status: 0,
+        output: "load 7\ncalls 8192\nrefused 0\nmade 5120\nreleased 5120\ncredited 523776\ntask 1 ledger 68913\ntask 2 ledger 61399\ntask 3 ledger 65714\ntask 4 ledger 66892\ntask 5 ledger 64203\ntask 6 ledger 63448\ntask 7 ledger 69373\ntask 8 ledger 63834\nvouchers 0\nvalues 1\nend\n",
+    },
+    Case {
+        words: &["load"],
+        input: b"",
+        status: 1,
+        output: "",
+    },
+    Case {
+        words: &["load", "01"],
+        input: b"",
+        status: 1,
+        output: "",
     },
     Case {
         words: &["header", "1"],

@@ -1,5 +1,5 @@
 ghost use Rattle.std.specs.Prelude.{◌≡◌, ◌↔◌, ◌≤◌, ◌<◌, length, map, IfSome, None, string_bytes};
-ghost use Rattle.vch_replay.specs.Commands.{command_of};
+ghost use Rattle.vch_replay.specs.Commands.{WordsRead, command_of};
 ghost use Rattle.vch_replay.specs.Input.{limit};
 ghost use Rattle.vch_replay.specs.Run.{WritesAnswer, WritesRefusal};
 
@@ -21,7 +21,7 @@ pub fn run_over<R: Read + Drop, W: Write + Drop>(
 ) -> u8
     ensures words { (result ≡ 1) ↔ (command_of (map string_bytes words.now) ≡ None) }
     // The input is in its grammar, and there is a text that answers it.
-    ensures answered { result ≡ 0 → IfSome (R.remaining reader) (λ input. WritesAnswer (command_of (map string_bytes words.now)) input None None) }
+    ensures answered { WordsRead (command_of (map string_bytes words.now)) → result ≡ 0 → IfSome (R.remaining reader) (λ input. WritesAnswer (command_of (map string_bytes words.now)) input None None) }
     // The input is refused, and there is a line that says why.
     ensures refused { result ≡ 2 → IfSome (R.remaining reader) (λ input. WritesRefusal (command_of (map string_bytes words.now)) input None None) }
     ensures long { result ≡ 6 → IfSome (R.remaining reader) (λ input. limit < length input) }

@@ -1,20 +1,18 @@
-use Rattle.std.proofs.Common.{arith, ◌≡◌, ◌<◌, length, ap, ◌∙◌, get_or, inl, inr}
-use Rattle.std.proofs.lemmas.Grind.{common_steps}
-use Rattle.vch_machine.specs.Naming as naming
-use Rattle.vch_plain.specs.declared.state.Named.{Named}
-use Rattle.vch_plain.specs.States.{names_of}
-use Rattle.vch_plain.proofs.NameRows.{less_at_place, less_at_gone}
+use Rattle.std.proofs.Common.{◌≡◌, true, nat_lt, sym, ap, ◌∙◌, subst, set, rules}
+use Rattle.vch_machine.specs.State.{Named}
+use Rattle.vch_plain.proofs.NamePlaces.{at_one, less_at, gone_at, none_less, none_found}
 use Rattle.vch_plain.proofs.names.one_less.Goals as goal
 
-pub returns-then-index-name : goal.returns-then-index-name
-returns-then-index-name c =
-    let inside : c.loop-i.i < length c.loop-i.names.items = omega arith in
-    let n : Named = c.lessen.ensures.0 in
-    let is : n ≡ get_or c.loop-i.names.items c.loop-i.i n = c.lessen.ensures.1 in
-    let same : n ≡ c.index.result.now = grind (arith, common_steps) in
-    let named = ap (λ (x : Named). x.name) same ∙ c.if-index-name.true in
-    let last = ap (λ l. naming.one_less (names_of l) c.args.name) c.loop-i.invariant.same in
-    elim c.lessen.ensures.2 [
-      | inl p ↦ ap names_of p.1 ∙ less_at_place c.loop-i.names.items c.loop-i.i c.args.name n inside is named p.0 c.loop-i.invariant.rest ∙ last
-      | inr p ↦ ap names_of p.1 ∙ less_at_gone c.loop-i.names.items c.loop-i.i c.args.name n inside is named p.0 c.loop-i.invariant.rest ∙ last
-    ]
+pub returns-in_default : goal.returns-in_default
+returns-in_default c = none_less c.args.names.now.items c.args.name (none_found c.args.names.now.items c.args.name c.position.result (search rules) c.in_default.not-Some)
+
+pub returns-then-is_repeated : goal.returns-then-is_repeated
+returns-then-is_repeated c =
+    ap (set c.args.names.now.items c.in-Some.i) c.take_reference.ensures
+    ∙ less_at c.args.names.now.items c.args.name c.in-Some.i c.index_mut.result.now (search rules) c.index_mut.ensures.value
+    (subst (λ (n : Named). nat_lt 1 n.refs ≡ true) (at_one c.args.names.now.items c.in-Some.i c.index.result.now c.index_mut.result.now (search rules) (search rules) c.index_mut.ensures.value) (sym c.is_repeated.ensures ∙ c.if-is_repeated.true))
+
+pub returns-else-is_repeated : goal.returns-else-is_repeated
+returns-else-is_repeated c =
+    c.remove.ensures.items
+    ∙ gone_at c.args.names.now.items c.args.name c.in-Some.i c.index.result.now (search rules) (search rules) (search rules)

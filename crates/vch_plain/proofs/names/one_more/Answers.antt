@@ -1,18 +1,12 @@
-use Rattle.std.proofs.Common.{arith, ◌≡◌, ◌<◌, ◌+◌, length, ap, ◌∙◌, set}
-use Rattle.std.proofs.lemmas.Grind.{common_steps}
-use Rattle.vch_machine.specs.Naming as naming
-use Rattle.vch_plain.specs.declared.state.Named.{Named}
-use Rattle.vch_plain.specs.States.{names_of}
-use Rattle.vch_plain.proofs.NameRows.{more_at_place}
+use Rattle.std.proofs.Common.{ap, ◌∙◌, set, rules}
+use Rattle.vch_plain.proofs.Outcomes.{on_ok}
+use Rattle.vch_plain.proofs.NamePlaces.{more_at, none_more}
 use Rattle.vch_plain.proofs.names.one_more.Goals as goal
 
-pub returns-then-index-name : goal.returns-then-index-name
-returns-then-index-name c =
-    let inside : c.loop-i.i < length c.loop-i.names.items = omega arith in
-    let same : c.index_mut.result.now ≡ c.index.result.now = grind (arith, common_steps) in
-    let counted : c.in_ok-refs.refs ≡ c.index_mut.result.now.refs + 1 = grind (arith, common_steps) in
-    ap (λ k. names_of (set c.loop-i.names.items c.loop-i.i (record (c.index_mut.result.now) { refs = k }))) counted
-    ∙ more_at_place c.loop-i.names.items c.loop-i.i c.args.name c.index_mut.result.now inside c.index_mut.ensures.value
-    (ap (λ (n : Named). n.name) same ∙ c.if-index-name.true)
-    c.loop-i.invariant.rest
-    ∙ ap (λ l. naming.one_more (names_of l) c.args.name) c.loop-i.invariant.same
+pub returns-in-Some : goal.returns-in-Some
+returns-in-Some c = on_ok c.add_reference.result c.add_reference.ensures (λ e.
+    ap (set c.args.names.now.items c.in-Some.i) e
+    ∙ more_at c.args.names.now.items c.args.name c.in-Some.i c.index_mut.result.now (search rules) c.index_mut.ensures.value)
+
+pub returns-in-None : goal.returns-in-None
+returns-in-None c = none_more c.args.names.now.items c.args.name (search rules)

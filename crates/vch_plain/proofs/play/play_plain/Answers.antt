@@ -1,19 +1,11 @@
-use Rattle.std.proofs.Common.{arith}
-use Rattle.vch_plain.proofs.Playing.{at_start, came_self, came_then, ended, plain_run, plain_whole}
+use Rattle.vch_plain.proofs.Leading.{keeps_of}
+use Rattle.vch_plain.proofs.Outcomes.{if_ok}
+use Rattle.vch_plain.proofs.Starting.{same_plain}
 use Rattle.vch_plain.proofs.play.play_plain.Goals as goal
 
-pub loop-phase-init : goal.loop-phase-init
-loop-phase-init c = came_self c.args.scenario.now 0 0 c.in_ok-plain.plain (at_start c.args.scenario.now c.in_ok-plain.plain c.in_ok-plain.ensures)
-
-pub loop-phase-preserved : goal.loop-phase-preserved
-loop-phase-preserved c = came_then c.args.scenario.now c.loop-phase.phase 0 _ 0 c.in_ok-plain.plain c.loop-phase.plain c.play_phase.new.plain c.loop-phase.invariant c.in_ok-play_phase.ensures
+pub tell-requires : goal.tell-requires
+tell-requires c = record { keeps = keeps_of c.args.scenario.now c.finish.new.run c.in_ok-finish.ensures.going }
 
 pub returns-clause-history : goal.returns-clause-history
-returns-clause-history c = plain_run c.args.scenario.now c.loop-phase.plain
-    (ended c.args.scenario.now c.in_ok-plain.plain c.loop-phase.plain c.loop-phase.phase c.in_ok-plain.ensures
-    (let a = c.loop-phase-test.false in let b = c.len-phase-end.ensures in omega (arith, a, b)) c.loop-phase.invariant)
-
-pub returns-clause-whole : goal.returns-clause-whole
-returns-clause-whole c = plain_whole c.args.scenario.now c.loop-phase.plain
-    (ended c.args.scenario.now c.in_ok-plain.plain c.loop-phase.plain c.loop-phase.phase c.in_ok-plain.ensures
-    (let a = c.loop-phase-test.false in let b = c.len-phase-end.ensures in omega (arith, a, b)) c.loop-phase.invariant)
+returns-clause-history c =
+    if_ok c.tell.result c.tell.ensures.history (λ p e. same_plain c.args.scenario.now p.history.entries c.finish.new.run.machine.past e c.in_ok-finish.ensures.plain)

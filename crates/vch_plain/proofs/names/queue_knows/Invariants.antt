@@ -1,0 +1,8 @@
+use Rattle.std.proofs.Common.{◌≡◌, drop}
+use Rattle.std.specs.List.{list_any}
+use Rattle.vch_machine.specs.Naming as naming
+use Rattle.vch_machine.specs.State as machine
+use Rattle.vch_plain.proofs.names.queue_knows.Given as goal
+
+abbrev pub invariant-loop-message : goal.invariant-loop-message
+invariant-loop-message l = list_any (λ (q : machine.Message). naming.option_same q.voucher l.voucher) (drop l.message-index l.queue) ≡ list_any (λ (q : machine.Message). naming.option_same q.voucher l.voucher) l.queue

@@ -1,7 +1,0 @@
-use Rattle.std.proofs.Common.{◌≡◌, drop}
-use Rattle.vch_machine.specs.Naming as naming
-use Rattle.vch_plain.specs.States.{names_of}
-use Rattle.vch_plain.proofs.names.voucher_of.Given as goal
-
-abbrev pub invariant-loop-named : goal.invariant-loop-named
-invariant-loop-named l = naming.handles_of (names_of (drop l.named-index l.names)) l.name ≡ naming.handles_of (names_of l.names) l.name

@@ -1,0 +1,11 @@
+use Rattle.vch_plain.proofs.Leading.{keeps_of}
+use Rattle.vch_plain.proofs.Outcomes.{if_ok}
+use Rattle.vch_plain.proofs.Starting.{same_seeded}
+use Rattle.vch_plain.proofs.play.play_seed.Goals as goal
+
+pub tell-requires : goal.tell-requires
+tell-requires c = record { keeps = keeps_of c.args.scenario.now c.finish_by_seed.new.run c.in_ok-finish_by_seed.ensures.going }
+
+pub returns-clause-history : goal.returns-clause-history
+returns-clause-history c =
+    if_ok c.tell.result c.tell.ensures.history (λ p e. same_seeded c.args.scenario.now c.args.seed p.history.entries c.finish_by_seed.new.run.machine.past e c.in_ok-finish_by_seed.ensures.seeded)
