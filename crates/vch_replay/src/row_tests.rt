@@ -254,7 +254,7 @@ fn words_of(alloc: Global, words: &[&str]) -> Result<Vec<String>, Fail> {
 fn played(alloc: Global, words: &[&str], scenario: &[u8]) -> Result<SteadySink, Fail> {
     let words = words_of(alloc, words)?;
     let mut source = SteadySource::new(Vec::from_slice(alloc, scenario)?);
-    let mut sink = SteadySink::new(alloc, 1000)?;
+    let mut sink = SteadySink::new(alloc, 40000)?;
     if run_steady(alloc, words.as_slice(), &mut source, &mut sink) != 0 {
         return Err(Fail::new("not done"));
     }
