@@ -1,0 +1,131 @@
+-- Each answer is of a line of its task, so there are no more answers than lines.
+use Rattle.std.proofs.Common.{◌≡◌, ℕ, zero, suc, ◌+◌, ◌-◌, ◌<◌, ◌≤◌, Bool, List, [], ◌∷◌, refl, true, false, arith, subst, length, Some, None, Option}
+use Rattle.std.specs.Prelude.{if◌then◌else◌, ◌==◌, slice_get}
+use Rattle.vch_model.specs.declared.call.Call.{Call}
+use Rattle.vch_model.specs.declared.call.Line.{Line}
+use Rattle.vch_model.specs.declared.entry.Entry.{Entry}
+use Rattle.vch_model.specs.declared.entry.Entry.TheVariants as entries
+use Rattle.vch_model.specs.declared.lists.Scenario.{Scenario}
+use Rattle.vch_model.specs.Legal.{LegalPast, Answers}
+use Rattle.vch_model.specs.Lines.{lines_of, line_at, calls_in, phases_in, current_call, call_of_phase}
+use Rattle.vch_model.specs.After.{store_of}
+use Rattle.vch_legal.proofs.CallerLemmas.{lines_of_tasks, all_of_tasks}
+use Rattle.vch_bounds.specs.Rooms.{answers_in, calls_of}
+
+-- a place that has an item is within the list
+inside : {A : Type 0} (xs : List A) (i : ℕ) (x : A) → slice_get xs i ≡ Some x → i < length xs
+inside [] i x e = cc
+inside (y ∷ xs) zero x e = omega arith
+inside (y ∷ xs) (suc i) x e = let r = inside xs i x e in omega (arith, r)
+
+line_there : (phase : ℕ) (xs : List (ℕ × Line)) (i : ℕ) (o : Option (ℕ × Line)) (call : Call) → slice_get xs i ≡ o
+    → call_of_phase phase o ≡ Some call → i < length xs
+line_there phase xs i None call e h = cc
+line_there phase xs i (Some l) call e h = inside xs i l e
+
+-- the answer is of a line
+answered : (sc : Scenario) (past : List Entry) (t : ℕ) (o : Option Call) → current_call sc past t ≡ o
+    → (o ≡ None → ⊥) → calls_in past t + 1 ≤ length (lines_of sc t)
+answered sc past t None e some = absurd (some refl)
+answered sc past t (Some call) e some =
+    let a : calls_in past t + 1 - 1 < length (lines_of sc t) =
+    line_there (phases_in past + 1) (lines_of sc t) (calls_in past t + 1 - 1) (line_at sc t (calls_in past t + 1)) call refl e in
+    omega (arith, a)
+
+-- the answers of one task are no more than its lines
+pub of_task : (sc : Scenario) (past : List Entry) (u : ℕ) → LegalPast sc past → calls_in past u ≤ length (lines_of sc u)
+of_task sc [] u h = omega arith
+of_task sc (entries.Call t n word reply ∷ past) u h = by_test (t == u) refl (of_task sc past u h.0)
+  where
+    same : (a b : ℕ) → (a == b) ≡ true → a ≡ b
+    same a b e = grind arith
+
+    there : (o : Option Call) → Answers sc past (store_of sc past) t o word reply → o ≡ None → ⊥
+    there None a e = a
+    there (Some call) a e = cc
+
+    by_test : (b : Bool) → (t == u) ≡ b → calls_in past u ≤ length (lines_of sc u)
+        → calls_in past u + (if b then 1 else 0) ≤ length (lines_of sc u)
+    by_test true e r =
+        subst (λ v. calls_in past v + 1 ≤ length (lines_of sc v)) (same t u e)
+        (answered sc past t (current_call sc past t) refl (there (current_call sc past t) h.1.1))
+    by_test false e r = omega (arith, r)
+of_task sc (entries.Made k x ∷ past) u h = of_task sc past u h.0
+of_task sc (entries.Released e ∷ past) u h = of_task sc past u h.0
+of_task sc (entries.Gone t name ∷ past) u h = of_task sc past u h.0
+of_task sc (entries.Lost t ∷ past) u h = of_task sc past u h.0
+of_task sc (entries.Phase ∷ past) u h = of_task sc past u h.0
+
+-- the answers of so many tasks, from a number on
+abbrev answers_of : List Entry → ℕ → ℕ → ℕ
+answers_of past u zero = 0
+answers_of past u (suc n) = calls_in past u + answers_of past (u + 1) n
+
+of_tasks : (sc : Scenario) (past : List Entry) (u n : ℕ) → LegalPast sc past → answers_of past u n ≤ lines_of_tasks sc u n
+of_tasks sc past u zero h = omega arith
+of_tasks sc past u (suc n) h =
+    let a : calls_in past u ≤ length (lines_of sc u) = of_task sc past u h in
+    let b : answers_of past (u + 1) n ≤ lines_of_tasks sc (u + 1) n = of_tasks sc past (u + 1) n h in
+    omega (arith, a, b)
+
+-- one answer more of one of these tasks
+one_more : (past : List Entry) (t u n : ℕ) (entry : Entry)
+    → ((v : ℕ) → calls_in (entry ∷ past) v ≡ calls_in past v + (if t == v then 1 else 0))
+    → u ≤ t → t < u + n → answers_of past u n + 1 ≤ answers_of (entry ∷ past) u n
+one_more past t u zero entry h low high = absurd (omega (arith, low, high))
+one_more past t u (suc n) entry h low high =
+    by_test (t == u) refl (h u) (λ k. one_more past t (u + 1) n entry h (above t u k low) (omega (arith, high)))
+  where
+    no_less : (u n : ℕ) → answers_of past u n ≤ answers_of (entry ∷ past) u n
+    no_less u zero = omega arith
+    no_less u (suc n) =
+        let a : calls_in (entry ∷ past) u ≡ calls_in past u + (if t == u then 1 else 0) = h u in
+        let b : answers_of past (u + 1) n ≤ answers_of (entry ∷ past) (u + 1) n = no_less (u + 1) n in
+        up _ _ _ _ (if t == u then 1 else 0) a b
+      where
+        up : (a b c d k : ℕ) → b ≡ a + k → c ≤ d → a + c ≤ b + d
+        up a b c d k e l = omega arith
+
+    above : (t u : ℕ) → (t == u) ≡ false → u ≤ t → u + 1 ≤ t
+    above t u e l = grind arith
+
+    by_test : (b : Bool) → (t == u) ≡ b → calls_in (entry ∷ past) u ≡ calls_in past u + (if b then 1 else 0)
+        → ((t == u) ≡ false → answers_of past (u + 1) n + 1 ≤ answers_of (entry ∷ past) (u + 1) n)
+        → calls_in past u + answers_of past (u + 1) n + 1 ≤ calls_in (entry ∷ past) u + answers_of (entry ∷ past) (u + 1) n
+    by_test true e g rec = let a = no_less (u + 1) n in omega (arith, a, g)
+    by_test false e g rec = let a = rec e in omega (arith, a, g)
+
+-- an entry that is no answer
+as_before : (past : List Entry) (n : ℕ) (entry : Entry) → ((v : ℕ) → calls_in (entry ∷ past) v ≡ calls_in past v)
+    → answers_in past ≤ answers_of past 0 n → answers_in past ≤ answers_of (entry ∷ past) 0 n
+as_before past n entry h l = let e = same 0 n in omega (arith, e, l)
+  where
+    same : (u n : ℕ) → answers_of (entry ∷ past) u n ≡ answers_of past u n
+    same u zero = refl
+    same u (suc n) = let a = h u in let b = same (u + 1) n in omega (arith, a, b)
+
+-- no task of an answer has a larger number
+abbrev largest : List Entry → ℕ
+largest [] = 0
+largest (entries.Call t n word reply ∷ past) = t + largest past
+largest (entry ∷ past) = largest past
+
+all_answers : (past : List Entry) (n : ℕ) → largest past < n → answers_in past ≤ answers_of past 0 n
+all_answers [] n l = omega arith
+all_answers (entries.Call t i word reply ∷ past) n l =
+    let r = all_answers past n (omega (arith, l)) in
+    let a = one_more past t 0 n (entries.Call t i word reply) (λ v. refl) (omega arith) (omega (arith, l)) in
+    omega (arith, r, a)
+all_answers (entries.Made k x ∷ past) n l = let a = as_before past n (entries.Made k x) (λ u. refl) (all_answers past n l) in omega (arith, a)
+all_answers (entries.Released e ∷ past) n l = let a = as_before past n (entries.Released e) (λ u. refl) (all_answers past n l) in omega (arith, a)
+all_answers (entries.Gone t name ∷ past) n l = let a = as_before past n (entries.Gone t name) (λ u. refl) (all_answers past n l) in omega (arith, a)
+all_answers (entries.Lost t ∷ past) n l = let a = as_before past n (entries.Lost t) (λ u. refl) (all_answers past n l) in omega (arith, a)
+all_answers (entries.Phase ∷ past) n l = let a = as_before past n entries.Phase (λ u. refl) (all_answers past n l) in omega (arith, a)
+
+-- the answers of a legal history are no more than the scenario's calls
+pub answers_few : (sc : Scenario) (past : List Entry) → LegalPast sc past → answers_in past ≤ calls_of sc
+answers_few sc past h =
+    let a = all_answers past (suc (largest past)) (omega arith) in
+    let b = of_tasks sc past 0 (suc (largest past)) h in
+    let c : lines_of_tasks sc 0 (suc (largest past)) ≤ calls_of sc = all_of_tasks sc 0 (suc (largest past)) in
+    omega (arith, a, b, c)
