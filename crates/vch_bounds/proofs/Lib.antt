@@ -1,2 +1,4 @@
 pub mod lists
 pub mod counts
+pub mod events
+pub mod runs

@@ -1,0 +1,7 @@
+pub mod Paid
+pub mod Leaves
+pub mod Makes
+pub mod Works
+pub mod Places
+pub mod Begins
+pub mod Events
