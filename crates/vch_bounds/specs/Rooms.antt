@@ -6,6 +6,7 @@ use Rattle.vch_model.specs.declared.entry.Entry.TheVariants as entries
 use Rattle.vch_model.specs.declared.lists.Scenario.{Scenario}
 use Rattle.vch_model.specs.After.{store_of}
 use Rattle.vch_model.specs.Lines.{phases_in}
+use Rattle.vch_model.specs.Store.{member}
 use Rattle.vch_model.specs.Scenarios.{line_count}
 use Rattle.vch_legal.specs.Facts.{times}
 use Rattle.vch_bounds.specs.Owned.{things_in, references_in}
@@ -50,7 +51,8 @@ abbrev pub room_of : Scenario → List Entry → ℕ
 room_of sc past = 2 * calls_of sc + length sc.phases + 2 * made_in past
 
 -- how many entries of each kind there are: answers of the scenario's calls, ends of its phases, and a release of each value made
--- that is not live. Each answer gives one name or one message at most, which an exit may give up, and one user reference
+-- that is not live. Each answer gives one name or one message at most, which an exit may give up, and one user reference;
+-- and the next name of a task rises by one with an answer at most
 pub record Counted (sc : Scenario) (past : List Entry) : Type 0 where
   pub entries : length past ≡ answers_in past + made_in past + released_in past + given_up_in past + phases_in past
   pub answers : answers_in past ≤ calls_of sc
@@ -58,3 +60,4 @@ pub record Counted (sc : Scenario) (past : List Entry) : Type 0 where
   pub released : released_in past + length (store_of sc past).live ≡ made_in past
   pub given_up : given_up_in past + things_in (store_of sc past) ≤ answers_in past
   pub references : references_in (store_of sc past) ≤ answers_in past
+  pub nexts : (t : ℕ) → (member (store_of sc past) t).next ≤ answers_in past + 1

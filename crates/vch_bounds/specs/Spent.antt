@@ -1,15 +1,15 @@
 -- How far a run can have come: what bounds the references, the claims and the values of a state by the calls that were begun.
-use Rattle.std.specs.Prelude.{ℕ, ◌+◌, ◌-◌, ◌*◌, ◌≤◌, Bool, true, false, List, [], ◌∷◌, length, drop, Option, Some, None, is_some}
+use Rattle.std.specs.Prelude.{ℕ, ◌+◌, ◌-◌, ◌*◌, ◌<◌, ◌≤◌, Bool, true, false, List, [], ◌∷◌, length, drop, Option, Some, None, is_some}
 use Rattle.vch_base.specs.declared.key.Key.{Key}
 use Rattle.vch_base.specs.Keyed.{of_key}
 use Rattle.vch_model.specs.declared.call.Call.{Call}
 use Rattle.vch_model.specs.declared.call.Call.TheVariants as calls
 use Rattle.vch_model.specs.declared.lists.Scenario.{Scenario}
-use Rattle.vch_machine.specs.State.{Place, Frame, Tasked, Machine}
+use Rattle.vch_machine.specs.State.{Place, Named, Frame, Tasked, Machine, tasked}
 use Rattle.vch_machine.specs.Next.{nth_call}
 use Rattle.vch_legal.specs.Facts.{bit}
-use Rattle.vch_legal.specs.Tie.{place_with, keys_with}
-use Rattle.vch_bounds.specs.Rooms.{made_in, given_up_in}
+use Rattle.vch_legal.specs.Tie.{place_with, keys_with, is_answering}
+use Rattle.vch_bounds.specs.Rooms.{calls_of, made_in, given_up_in}
 use Rattle.vch_bounds.specs.Sums.{sum_tasks}
 
 -- References are counted four times here, since a record of a create has sixteen bytes or more and asks four keys at most: so
@@ -62,6 +62,18 @@ flying_in t x = flying_of x.frame
 abbrev pub begun_in : ℕ → Tasked → ℕ
 begun_in t x = x.begun
 
+-- 1 where a call is not answered
+abbrev pub open_in : ℕ → Tasked → ℕ
+open_in t x = bit (is_answering x.frame)
+
+-- the user references of names, and of a task with its messages
+abbrev pub user_references : List Named → ℕ
+user_references [] = 0
+user_references (n ∷ names) = n.refs + user_references names
+
+abbrev pub owned_in : ℕ → Tasked → ℕ
+owned_in t x = user_references x.names + length x.queue
+
 -- over all tasks
 abbrev pub in_all : (ℕ → Tasked → ℕ) → Machine → ℕ
 in_all f m = sum_tasks f 1 m.tasks
@@ -74,3 +86,27 @@ pub record Spent (sc : Scenario) (m : Machine) : Type 0 where
   pub claims : 4 * m.tally.claims + in_all (lets_in sc) m ≤ 5152 * in_all begun_in m + 16 * given_up_in m.past
   pub made : made_in m.past ≤ m.tally.refers + in_all flying_in m
   pub used : (k : Key) → (of_key k m.pools).used ≤ made_in m.past + 1
+
+-- so a state of a run has counted no more than this, by the calls that were begun and the receipts in flight, at most one a task
+pub record Bounded (sc : Scenario) (m : Machine) : Type 0 where
+  pub begun : in_all begun_in m ≤ calls_of sc
+  pub flying : in_all flying_in m ≤ length sc.flags
+  pub refers : m.tally.refers + in_all flying_in m ≤ 1280 * in_all begun_in m
+  pub claims : m.tally.claims ≤ 1292 * in_all begun_in m
+  pub asks : m.tally.asks ≤ m.tally.refers
+  pub made : made_in m.past ≤ m.tally.refers + in_all flying_in m
+  pub used : (k : Key) → (of_key k m.pools).used ≤ m.tally.refers + in_all flying_in m + 1
+  pub owned : in_all owned_in m + in_all open_in m ≤ in_all begun_in m
+  pub nexts : (t : ℕ) → (tasked m t).next + in_all open_in m ≤ in_all begun_in m + 1
+
+-- and so within these numbers, each below 2 ^ 32, where there are at most 1,048,576 calls
+pub record InNumbers (m : Machine) : Type 0 where
+  pub begun : in_all begun_in m ≤ 1048576
+  pub refers : m.tally.refers ≤ 1342177280
+  pub claims : m.tally.claims + m.tally.refers ≤ 2696937472
+  pub asks : m.tally.asks ≤ 1342177280
+  pub made : made_in m.past ≤ 1342177280
+  pub used : (k : Key) → (of_key k m.pools).used ≤ 1342177281
+  pub owned : in_all owned_in m ≤ 1048576
+  pub nexts : (t : ℕ) → (tasked m t).next ≤ 1048577
+  pub past : length m.past < 4294967296

@@ -1,15 +1,17 @@
 -- Each answer is of a line of its task, so there are no more answers than lines.
-use Rattle.std.proofs.Common.{◌≡◌, ℕ, zero, suc, ◌+◌, ◌-◌, ◌<◌, ◌≤◌, Bool, List, [], ◌∷◌, refl, true, false, arith, subst, length, Some, None, Option}
+use Rattle.std.proofs.Common.{◌≡◌, ℕ, zero, suc, ◌+◌, ◌-◌, ◌<◌, ◌≤◌, Bool, cond, List, [], ◌∷◌, refl, true, false, arith, subst, length, Some, None, Option}
 use Rattle.std.specs.Prelude.{if◌then◌else◌, ◌==◌, slice_get}
+use Rattle.std.specs.List.{filter}
 use Rattle.vch_model.specs.declared.call.Call.{Call}
 use Rattle.vch_model.specs.declared.call.Line.{Line}
 use Rattle.vch_model.specs.declared.entry.Entry.{Entry}
 use Rattle.vch_model.specs.declared.entry.Entry.TheVariants as entries
 use Rattle.vch_model.specs.declared.lists.Scenario.{Scenario}
 use Rattle.vch_model.specs.Legal.{LegalPast, Answers}
-use Rattle.vch_model.specs.Lines.{lines_of, line_at, calls_in, phases_in, current_call, call_of_phase}
+use Rattle.vch_model.specs.Lines.{lines_from, lines_of, line_at, calls_in, phases_in, current_call, call_of_phase}
 use Rattle.vch_model.specs.After.{store_of}
-use Rattle.vch_legal.proofs.CallerLemmas.{lines_of_tasks, all_of_tasks}
+use Rattle.vch_script.specs.Places.{IsOfTask, AreOfTasks}
+use Rattle.vch_legal.proofs.CallerLemmas.{lines_of_tasks, all_of_tasks, line_has}
 use Rattle.vch_bounds.specs.Rooms.{answers_in, calls_of}
 
 -- a place that has an item is within the list
@@ -57,7 +59,7 @@ of_task sc (entries.Lost t ∷ past) u h = of_task sc past u h.0
 of_task sc (entries.Phase ∷ past) u h = of_task sc past u h.0
 
 -- the answers of so many tasks, from a number on
-abbrev answers_of : List Entry → ℕ → ℕ → ℕ
+abbrev pub answers_of : List Entry → ℕ → ℕ → ℕ
 answers_of past u zero = 0
 answers_of past u (suc n) = calls_in past u + answers_of past (u + 1) n
 
@@ -96,13 +98,10 @@ one_more past t u (suc n) entry h low high =
     by_test false e g rec = let a = rec e in omega (arith, a, g)
 
 -- an entry that is no answer
-as_before : (past : List Entry) (n : ℕ) (entry : Entry) → ((v : ℕ) → calls_in (entry ∷ past) v ≡ calls_in past v)
-    → answers_in past ≤ answers_of past 0 n → answers_in past ≤ answers_of (entry ∷ past) 0 n
-as_before past n entry h l = let e = same 0 n in omega (arith, e, l)
-  where
-    same : (u n : ℕ) → answers_of (entry ∷ past) u n ≡ answers_of past u n
-    same u zero = refl
-    same u (suc n) = let a = h u in let b = same (u + 1) n in omega (arith, a, b)
+as_before : (past : List Entry) (u n : ℕ) (entry : Entry) → ((v : ℕ) → calls_in (entry ∷ past) v ≡ calls_in past v)
+    → answers_of (entry ∷ past) u n ≡ answers_of past u n
+as_before past u zero entry h = refl
+as_before past u (suc n) entry h = let a = h u in let b = as_before past (u + 1) n entry h in omega (arith, a, b)
 
 -- no task of an answer has a larger number
 abbrev largest : List Entry → ℕ
@@ -116,11 +115,11 @@ all_answers (entries.Call t i word reply ∷ past) n l =
     let r = all_answers past n (omega (arith, l)) in
     let a = one_more past t 0 n (entries.Call t i word reply) (λ v. refl) (omega arith) (omega (arith, l)) in
     omega (arith, r, a)
-all_answers (entries.Made k x ∷ past) n l = let a = as_before past n (entries.Made k x) (λ u. refl) (all_answers past n l) in omega (arith, a)
-all_answers (entries.Released e ∷ past) n l = let a = as_before past n (entries.Released e) (λ u. refl) (all_answers past n l) in omega (arith, a)
-all_answers (entries.Gone t name ∷ past) n l = let a = as_before past n (entries.Gone t name) (λ u. refl) (all_answers past n l) in omega (arith, a)
-all_answers (entries.Lost t ∷ past) n l = let a = as_before past n (entries.Lost t) (λ u. refl) (all_answers past n l) in omega (arith, a)
-all_answers (entries.Phase ∷ past) n l = let a = as_before past n entries.Phase (λ u. refl) (all_answers past n l) in omega (arith, a)
+all_answers (entries.Made k x ∷ past) n l = let r = all_answers past n l in let a = as_before past 0 n (entries.Made k x) (λ u. refl) in omega (arith, r, a)
+all_answers (entries.Released e ∷ past) n l = let r = all_answers past n l in let a = as_before past 0 n (entries.Released e) (λ u. refl) in omega (arith, r, a)
+all_answers (entries.Gone t name ∷ past) n l = let r = all_answers past n l in let a = as_before past 0 n (entries.Gone t name) (λ u. refl) in omega (arith, r, a)
+all_answers (entries.Lost t ∷ past) n l = let r = all_answers past n l in let a = as_before past 0 n (entries.Lost t) (λ u. refl) in omega (arith, r, a)
+all_answers (entries.Phase ∷ past) n l = let r = all_answers past n l in let a = as_before past 0 n entries.Phase (λ u. refl) in omega (arith, r, a)
 
 -- the answers of a legal history are no more than the scenario's calls
 pub answers_few : (sc : Scenario) (past : List Entry) → LegalPast sc past → answers_in past ≤ calls_of sc
@@ -129,3 +128,50 @@ answers_few sc past h =
     let b = of_tasks sc past 0 (suc (largest past)) h in
     let c : lines_of_tasks sc 0 (suc (largest past)) ≤ calls_of sc = all_of_tasks sc 0 (suc (largest past)) in
     omega (arith, a, b, c)
+
+-- Where each line is of a task, so is each answer.
+
+passes : {A : Type 0} (p : A → Bool) (xs : List A) (i : ℕ) (x : A) → slice_get (filter p xs) i ≡ Some x → p x ≡ true
+passes p [] i x e = cc
+passes {A = A} p (y ∷ xs) i x e = by_test (p y) refl e (λ j h. passes p xs j x h)
+  where
+    some_eq : {a b : A} → Some a ≡ Some b → a ≡ b
+    some_eq h = cc
+
+    by_test : (b : Bool) → p y ≡ b → slice_get (cond b (y ∷ filter p xs) (filter p xs)) i ≡ Some x
+        → ((j : ℕ) → slice_get (filter p xs) j ≡ Some x → p x ≡ true) → p x ≡ true
+    by_test false h g rec = rec i g
+    by_test true h g rec = at_place i g
+      where
+        at_place : (i : ℕ) → slice_get (y ∷ filter p xs) i ≡ Some x → p x ≡ true
+        at_place zero g = subst (λ z. p z ≡ true) (some_eq g) h
+        at_place (suc j) g = rec j g
+
+task_of_answer : (sc : Scenario) (past : List Entry) (t : ℕ) (o : Option (ℕ × Line)) → AreOfTasks (length sc.flags) sc.phases
+    → line_at sc t (calls_in past t + 1) ≡ o → (call_of_phase (phases_in past + 1) o ≡ None → ⊥) → (1 ≤ t) × (t ≤ length sc.flags)
+task_of_answer sc past t None h e some = absurd (some refl)
+task_of_answer sc past t (Some l) h e some =
+    let a : IsOfTask (length sc.flags) l.1 = line_has (IsOfTask (length sc.flags)) sc t (calls_in past t + 1) l h e in
+    let b : l.1.task ≡ t = same l.1.task t (passes (λ (x : ℕ × Line). x.1.task == t) (lines_from 1 sc.phases) _ l e) in
+    (omega (arith, a.0, b), omega (arith, a.1, b))
+  where
+    same : (a b : ℕ) → (a == b) ≡ true → a ≡ b
+    same a b e = grind arith
+
+pub answers_in_range : (sc : Scenario) (past : List Entry) → AreOfTasks (length sc.flags) sc.phases → LegalPast sc past
+    → answers_in past ≤ answers_of past 1 (length sc.flags)
+answers_in_range sc [] h l = omega arith
+answers_in_range sc (entries.Call t i word reply ∷ past) h l =
+    let r = answers_in_range sc past h l.0 in
+    let a = task_of_answer sc past t (line_at sc t (calls_in past t + 1)) h refl (there (current_call sc past t) l.1.1) in
+    let b = one_more past t 1 (length sc.flags) (entries.Call t i word reply) (λ v. refl) a.0 (omega (arith, a.1)) in
+    omega (arith, r, b)
+  where
+    there : (o : Option Call) → Answers sc past (store_of sc past) t o word reply → o ≡ None → ⊥
+    there None a e = a
+    there (Some call) a e = cc
+answers_in_range sc (entries.Made k x ∷ past) h l = let r = answers_in_range sc past h l.0 in let a = as_before past 1 (length sc.flags) (entries.Made k x) (λ u. refl) in omega (arith, r, a)
+answers_in_range sc (entries.Released e ∷ past) h l = let r = answers_in_range sc past h l.0 in let a = as_before past 1 (length sc.flags) (entries.Released e) (λ u. refl) in omega (arith, r, a)
+answers_in_range sc (entries.Gone t name ∷ past) h l = let r = answers_in_range sc past h l.0 in let a = as_before past 1 (length sc.flags) (entries.Gone t name) (λ u. refl) in omega (arith, r, a)
+answers_in_range sc (entries.Lost t ∷ past) h l = let r = answers_in_range sc past h l.0 in let a = as_before past 1 (length sc.flags) (entries.Lost t) (λ u. refl) in omega (arith, r, a)
+answers_in_range sc (entries.Phase ∷ past) h l = let r = answers_in_range sc past h l.0 in let a = as_before past 1 (length sc.flags) entries.Phase (λ u. refl) in omega (arith, r, a)

@@ -78,3 +78,8 @@ weight_gone (n ∷ names) name e = by_test (n.name == name) refl (λ b h. weight
         let r : weight (without_name names name) + 1 ≤ weight names =
         behind rec (lowest names) refl (some_eq e) other in
         omega (arith, r)
+
+-- the next name is one further
+pub next_named : (x : Member) (v : Voucher) (name : Option ℕ) → (with_name x v name).next - 1 ≤ x.next - 1 + 1
+next_named x v None = omega arith
+next_named x v (Some name) = omega arith

@@ -1,12 +1,12 @@
 -- A legal history has room.
 use Rattle.std.proofs.Common.{◌≡◌, ℕ, suc, ◌+◌, ◌≤◌, Bool, List, [], ◌∷◌, refl, true, false, arith, ap, length, length-append, Some, None, Option}
-use Rattle.std.specs.Prelude.{if◌then◌else◌, ◌==◌}
+use Rattle.std.specs.Prelude.{if◌then◌else◌, ◌==◌, ◌-◌}
 use Rattle.vch_model.specs.declared.entry.Entry.{Entry}
 use Rattle.vch_model.specs.declared.entry.Entry.TheVariants as entries
 use Rattle.vch_model.specs.declared.lists.Scenario.{Scenario}
 use Rattle.vch_model.specs.Legal.{LegalPast, CanFollow, IsUnheld, find_made}
 use Rattle.vch_model.specs.Lines.{phases_in, line_at}
-use Rattle.vch_model.specs.Store.{Store, Member, Message, Alive, member, with_name}
+use Rattle.vch_model.specs.Store.{Store, Member, Message, Alive, nobody, member, with_name}
 use Rattle.vch_model.specs.Voucher.{Voucher}
 use Rattle.vch_model.specs.After.{store_of, without_made, is_want, lost}
 use Rattle.vch_legal.proofs.CallerLemmas.{call_live}
@@ -14,8 +14,9 @@ use Rattle.vch_bounds.specs.Owned.{references_of, things_in, references_in}
 use Rattle.vch_bounds.specs.Rooms.{Counted, is_made, answers_in, made_in, released_in, given_up_in, room_of}
 use Rattle.vch_bounds.specs.Sums.{sum_tasks}
 use Rattle.vch_bounds.proofs.counts.Answers.{answers_few}
-use Rattle.vch_bounds.proofs.counts.Names.{weight, few_names, few_references, weight_named, weight_less, weight_gone}
+use Rattle.vch_bounds.proofs.counts.Names.{weight, few_names, few_references, weight_named, weight_less, weight_gone, next_named}
 use Rattle.vch_bounds.proofs.counts.Owned.{IsCount, owned_few}
+use Rattle.vch_bounds.proofs.lists.TaskSums.{one_of_all, no_more}
 
 each_entry : (past : List Entry) → length past ≡ answers_in past + made_in past + released_in past + given_up_in past + phases_in past
 each_entry [] = refl
@@ -92,10 +93,19 @@ owned_counts = record {
     by_name x v None = let a = weight_named x v None in omega (arith, a)
     by_name x v (Some name) = let a = weight_named x v (Some name) in omega (arith, a)
 
-no_more : (f g : Member → ℕ) → ((x : Member) → f x ≤ g x) → (xs : List Member) (t : ℕ)
-    → sum_tasks (λ u (x : Member). f x) t xs ≤ sum_tasks (λ u (x : Member). g x) t xs
-no_more f g h [] t = omega arith
-no_more f g h (x ∷ xs) t = let a = h x in let b = no_more f g h xs (t + 1) in omega (arith, a, b)
+-- names that were given
+abbrev names_given : Member → ℕ
+names_given x = x.next - 1
+
+given_counts : IsCount names_given 0
+given_counts = record {
+  nobody = refl;
+  named = next_named;
+  less = λ x name. omega arith;
+  gone = λ x name e. omega arith;
+  queued = λ x q. omega arith;
+  taken = λ x q queue e. omega arith;
+}
 
 pub counted : (sc : Scenario) (past : List Entry) → LegalPast sc past → Counted sc past
 counted sc past h =
@@ -107,12 +117,17 @@ counted sc past h =
       released = all_released sc past h;
       given_up =
           let a : things_in (store_of sc past) ≤ sum_tasks (λ u (x : Member). owned x) 1 (store_of sc past).tasks =
-          no_more (λ x. length x.names + length x.queue) owned (λ x. let b = few_names x.names in omega (arith, b)) (store_of sc past).tasks 1 in
+          no_more (λ u (x : Member). length x.names + length x.queue) (λ u x. owned x) (λ u x. let b = few_names x.names in omega (arith, b)) (store_of sc past).tasks 1 in
           omega (arith, all, a);
       references =
           let a : references_in (store_of sc past) ≤ sum_tasks (λ u (x : Member). owned x) 1 (store_of sc past).tasks =
-          no_more (λ x. references_of x.names + length x.queue) owned (λ x. let b = few_references x.names in omega (arith, b)) (store_of sc past).tasks 1 in
+          no_more (λ u (x : Member). references_of x.names + length x.queue) (λ u x. owned x) (λ u x. let b = few_references x.names in omega (arith, b)) (store_of sc past).tasks 1 in
           omega (arith, all, a);
+      nexts = λ t.
+          let given = owned_few names_given 0 given_counts sc past h in
+          let a : names_given (member (store_of sc past) t) ≤ sum_tasks (λ u (x : Member). names_given x) 1 (store_of sc past).tasks =
+              one_of_all (λ u (x : Member). names_given x) (store_of sc past).tasks t nobody refl in
+          omega (arith, given, a);
     }
 
 pub within : (sc : Scenario) (past : List Entry) → LegalPast sc past → length past ≤ room_of sc past
