@@ -2,3 +2,4 @@ pub mod lists
 pub mod counts
 pub mod events
 pub mod runs
+pub mod CallerLemmas

@@ -1,4 +1,4 @@
 pub mod Owned
 pub mod Names
-pub mod Answers
+pub mod AnsweredLines
 pub mod Rooms

@@ -1,4 +1,5 @@
 pub mod Paid
+pub mod Open
 pub mod Leaves
 pub mod Makes
 pub mod Works

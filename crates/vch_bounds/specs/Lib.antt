@@ -1,5 +1,5 @@
-pub mod Limits
+pub mod Sums
 pub mod Owned
 pub mod Rooms
 pub mod Spent
-pub mod Sums
+pub mod Bounded

@@ -1,19 +1,21 @@
--- How far a run can have come: what bounds the references, the claims and the values of a state by the calls that were begun.
-use Rattle.std.specs.Prelude.{ℕ, ◌+◌, ◌-◌, ◌*◌, ◌<◌, ◌≤◌, Bool, true, false, List, [], ◌∷◌, length, drop, Option, Some, None, is_some}
+-- What a state of a run has spent: its references and claims are paid for by the calls that were begun.
+use Rattle.std.specs.Prelude.{ℕ, ◌+◌, ◌-◌, ◌*◌, ◌≤◌, Bool, true, false, List, [], ◌∷◌, length, drop, Option, Some, None, is_some}
 use Rattle.vch_base.specs.declared.key.Key.{Key}
+use Rattle.vch_base.specs.declared.limits.TheConstants.{ARRAY_BYTES}
 use Rattle.vch_base.specs.Keyed.{of_key}
+use Rattle.vch_base.specs.Keys.{every_key}
 use Rattle.vch_model.specs.declared.call.Call.{Call}
 use Rattle.vch_model.specs.declared.call.Call.TheVariants as calls
 use Rattle.vch_model.specs.declared.lists.Scenario.{Scenario}
-use Rattle.vch_machine.specs.State.{Place, Named, Frame, Tasked, Machine, tasked}
+use Rattle.vch_machine.specs.State.{Place, Frame, Tasked, Machine}
 use Rattle.vch_machine.specs.Next.{nth_call}
-use Rattle.vch_legal.specs.Facts.{bit}
-use Rattle.vch_legal.specs.Tie.{place_with, keys_with, is_answering}
-use Rattle.vch_bounds.specs.Rooms.{calls_of, made_in, given_up_in}
+use Rattle.vch_legal.specs.Facts.{bit, most_lets}
+use Rattle.vch_legal.specs.Tie.{place_with, keys_with}
+use Rattle.vch_bounds.specs.Rooms.{made_in, given_up_in}
 use Rattle.vch_bounds.specs.Sums.{sum_tasks}
 
--- References are counted four times here, since a record of a create has sixteen bytes or more and asks four keys at most: so
--- each byte counts for one.
+-- References and handles are counted four times here: a record of a create has sixteen bytes or more and asks four keys at most,
+-- so each of its bytes counts for one.
 
 -- the references that a call may still ask for, at a place and with these keys; with keys left, the record at the place is under
 -- way, and asks no more than these
@@ -38,75 +40,50 @@ takes_of version call None = 0
 takes_of version call (Some f) =
     unless f.answered (asks_with version call f.at_byte f.keys f.receipt) + 4 * bit (is_some f.receipt)
 
--- the handles that a frame may still let go, each of them four times too: those of its list, one for each reference that it may
--- take, and those of two vouchers when its call is answered
+-- the handles that a frame may still let go: those of its list, one for each reference that it may take, and those of two
+-- vouchers when its call is answered
 abbrev pub lets_of : ℕ → Option Call → Option Frame → ℕ
 lets_of version call None = 0
-lets_of version call (Some f) = 4 * length f.lets + unless f.answered 32 + takes_of version call (Some f)
+lets_of version call (Some f) = 4 * length f.lets + unless f.answered (4 * most_lets) + takes_of version call (Some f)
 
--- 1 where a receipt is in flight
-abbrev pub flying_of : Option Frame → ℕ
-flying_of None = 0
-flying_of (Some f) = bit (is_some f.receipt)
+-- what a call brings at its begin: a recipe array has 5,120 bytes at most
+abbrev pub call_takes : ℕ
+call_takes = ARRAY_BYTES
+
+abbrev pub call_lets : ℕ
+call_lets = ARRAY_BYTES + 4 * most_lets
+
+-- what a name or a message brings that an exit gives up: the handles of its voucher
+abbrev pub given_lets : ℕ
+given_lets = 4 * length every_key
 
 -- of a task with its number
+
 abbrev pub takes_in : Scenario → ℕ → Tasked → ℕ
 takes_in sc t x = takes_of sc.version (nth_call sc t x.begun) x.frame
 
 abbrev pub lets_in : Scenario → ℕ → Tasked → ℕ
 lets_in sc t x = lets_of sc.version (nth_call sc t x.begun) x.frame
 
-abbrev pub flying_in : ℕ → Tasked → ℕ
-flying_in t x = flying_of x.frame
-
 abbrev pub begun_in : ℕ → Tasked → ℕ
 begun_in t x = x.begun
 
--- 1 where a call is not answered
-abbrev pub open_in : ℕ → Tasked → ℕ
-open_in t x = bit (is_answering x.frame)
+-- 1 where a receipt is in flight
+abbrev pub flying_of : Option Frame → ℕ
+flying_of None = 0
+flying_of (Some f) = bit (is_some f.receipt)
 
--- the user references of names, and of a task with its messages
-abbrev pub user_references : List Named → ℕ
-user_references [] = 0
-user_references (n ∷ names) = n.refs + user_references names
-
-abbrev pub owned_in : ℕ → Tasked → ℕ
-owned_in t x = user_references x.names + length x.queue
+abbrev pub flying_in : ℕ → Tasked → ℕ
+flying_in t x = flying_of x.frame
 
 -- over all tasks
 abbrev pub in_all : (ℕ → Tasked → ℕ) → Machine → ℕ
 in_all f m = sum_tasks f 1 m.tasks
 
--- what was taken and let go, and what may still be, is bounded by the calls that were begun: 1,280 references a call, which is
--- what 5,120 bytes ask, and eight handles more; a name or a message that an exit gives up has four. A value is made for a
--- reference, and a handle is used first where one is made, but for Default's
+-- what was taken and claimed, and what may still be without another call, is paid for by the calls that were begun and by what
+-- exits gave up. A value is made for a reference, and a handle is first used where a value is made, but for Default's
 pub record Spent (sc : Scenario) (m : Machine) : Type 0 where
-  pub refers : 4 * m.tally.refers + in_all (takes_in sc) m ≤ 5120 * in_all begun_in m
-  pub claims : 4 * m.tally.claims + in_all (lets_in sc) m ≤ 5152 * in_all begun_in m + 16 * given_up_in m.past
+  pub refers : 4 * m.tally.refers + in_all (takes_in sc) m ≤ call_takes * in_all begun_in m
+  pub claims : 4 * m.tally.claims + in_all (lets_in sc) m ≤ call_lets * in_all begun_in m + given_lets * given_up_in m.past
   pub made : made_in m.past ≤ m.tally.refers + in_all flying_in m
   pub used : (k : Key) → (of_key k m.pools).used ≤ made_in m.past + 1
-
--- so a state of a run has counted no more than this, by the calls that were begun and the receipts in flight, at most one a task
-pub record Bounded (sc : Scenario) (m : Machine) : Type 0 where
-  pub begun : in_all begun_in m ≤ calls_of sc
-  pub flying : in_all flying_in m ≤ length sc.flags
-  pub refers : m.tally.refers + in_all flying_in m ≤ 1280 * in_all begun_in m
-  pub claims : m.tally.claims ≤ 1292 * in_all begun_in m
-  pub asks : m.tally.asks ≤ m.tally.refers
-  pub made : made_in m.past ≤ m.tally.refers + in_all flying_in m
-  pub used : (k : Key) → (of_key k m.pools).used ≤ m.tally.refers + in_all flying_in m + 1
-  pub owned : in_all owned_in m + in_all open_in m ≤ in_all begun_in m
-  pub nexts : (t : ℕ) → (tasked m t).next + in_all open_in m ≤ in_all begun_in m + 1
-
--- and so within these numbers, each below 2 ^ 32, where there are at most 1,048,576 calls
-pub record InNumbers (m : Machine) : Type 0 where
-  pub begun : in_all begun_in m ≤ 1048576
-  pub refers : m.tally.refers ≤ 1342177280
-  pub claims : m.tally.claims + m.tally.refers ≤ 2696937472
-  pub asks : m.tally.asks ≤ 1342177280
-  pub made : made_in m.past ≤ 1342177280
-  pub used : (k : Key) → (of_key k m.pools).used ≤ 1342177281
-  pub owned : in_all owned_in m ≤ 1048576
-  pub nexts : (t : ℕ) → (tasked m t).next ≤ 1048577
-  pub past : length m.past < 4294967296

@@ -17,7 +17,7 @@
 //! ```
 #![tactic(auto)]
 
-ghost use Rattle.std.specs.Prelude.{◌≡◌, ◌≤◌, ◌+◌, ℕ, Bool, false, List, length, Some};
+ghost use Rattle.std.specs.Prelude.{◌≡◌, ◌≤◌, ◌+◌, ◌*◌, ℕ, Bool, false, List, ◌∷◌, length, Some};
 ghost use Rattle.vch_model.specs.declared.entry.Entry.{Entry};
 ghost use Rattle.vch_model.specs.declared.lists.Scenario.{Scenario};
 ghost use Rattle.vch_model.specs.After.{store_of};
@@ -25,17 +25,20 @@ ghost use Rattle.vch_model.specs.Legal.{LegalPast, CanFollow};
 ghost use Rattle.vch_machine.specs.State.{Machine, start};
 ghost use Rattle.vch_machine.specs.Events.{event, phase_event};
 ghost use Rattle.vch_machine.specs.Schedules.{Move, run_from_start};
+ghost use Rattle.vch_legal.specs.Facts.{bit};
 ghost use Rattle.vch_legal.specs.Tie.{Ties};
-ghost use Rattle.vch_bounds.specs.Limits.{Limited};
 ghost use Rattle.vch_bounds.specs.Rooms.{Counted, room_of, is_made};
-ghost use Rattle.vch_bounds.specs.Spent.{Spent, Bounded, InNumbers};
+ghost use Rattle.vch_bounds.specs.Spent.{Spent};
+ghost use Rattle.vch_bounds.specs.Bounded.{Limited, Bounded, InNumbers};
 
 /// A law: a legal history has so many entries of each kind at most, and so it has room where two places a call, one a phase and
 /// two a Made entry were reserved. An entry that is not Made never needs more room than that; before a value is made, two more
 /// places are reserved.
-#[tactic(auto, using(crate::proofs::counts::Rooms::counted, crate::proofs::counts::Rooms::within, crate::proofs::counts::Rooms::one_more))]
+#[tactic(auto, using(crate::proofs::counts::Rooms::counted, crate::proofs::counts::Rooms::room_grows, crate::proofs::counts::Rooms::within, crate::proofs::counts::Rooms::one_more))]
 pub fn room_is_enough()
     ensures counted { (sc : Scenario) (past : List Entry) → LegalPast sc past → Counted sc past }
+    ensures grows { (sc : Scenario) (past : List Entry) (entry : Entry)
+        → room_of sc (entry ∷ past) ≡ room_of sc past + 2 * bit (is_made entry) }
     ensures within { (sc : Scenario) (past : List Entry) → LegalPast sc past → length past ≤ room_of sc past }
     ensures next { (sc : Scenario) (past : List Entry) (entry : Entry) → LegalPast sc past
         → CanFollow sc past (store_of sc past) entry → is_made entry ≡ false → length past + 1 ≤ room_of sc past }

@@ -1,9 +1,10 @@
 -- What names count for: each as much as its user references, and for one at least.
 use Rattle.std.proofs.Common.{◌≡◌, ℕ, ◌+◌, ◌-◌, ◌≤◌, Bool, List, [], ◌∷◌, ◌++◌, refl, true, false, arith, ap, ◌∙◌, length, Some, None, Option}
 use Rattle.std.specs.Prelude.{if◌then◌else◌, ◌==◌, min, max, nat_lt}
+use Rattle.std.specs.List.{sum_by}
+use Rattle.std.proofs.lemmas.List.Sums.{sum_by-cons}
 use Rattle.vch_model.specs.Store.{Named, Member, with_name, one_more, one_less, lower, lowest, without_name}
 use Rattle.vch_model.specs.Voucher.{Voucher}
-use Rattle.vch_bounds.specs.Owned.{references_of}
 
 abbrev pub at_least_one : ℕ → ℕ
 at_least_one n = max n 1
@@ -16,9 +17,10 @@ pub few_names : (names : List Named) → length names ≤ weight names
 few_names [] = omega arith
 few_names (n ∷ names) = let b = few_names names in omega (arith, b)
 
-pub few_references : (names : List Named) → references_of names ≤ weight names
+pub few_references : (names : List Named) → sum_by (λ (n : Named). n.refs) names ≤ weight names
 few_references [] = omega arith
-few_references (n ∷ names) = let b = few_references names in omega (arith, b)
+few_references (n ∷ names) =
+    let a = sum_by-cons (λ (k : Named). k.refs) n names in let b = few_references names in omega (arith, a, b)
 
 weight_more : (names : List Named) (name : ℕ) → weight (one_more names name) ≤ weight names + 1
 weight_more [] name = omega arith

@@ -1,19 +1,21 @@
 -- A legal history has room.
-use Rattle.std.proofs.Common.{◌≡◌, ℕ, suc, ◌+◌, ◌≤◌, Bool, List, [], ◌∷◌, refl, true, false, arith, ap, length, length-append, Some, None, Option}
+use Rattle.std.proofs.Common.{◌≡◌, ℕ, suc, ◌+◌, ◌*◌, ◌≤◌, Bool, List, [], ◌∷◌, refl, true, false, arith, ap, length, length-append, Some, None, Option}
 use Rattle.std.specs.Prelude.{if◌then◌else◌, ◌==◌, ◌-◌}
+use Rattle.std.specs.List.{sum_by}
 use Rattle.vch_model.specs.declared.entry.Entry.{Entry}
 use Rattle.vch_model.specs.declared.entry.Entry.TheVariants as entries
 use Rattle.vch_model.specs.declared.lists.Scenario.{Scenario}
 use Rattle.vch_model.specs.Legal.{LegalPast, CanFollow, IsUnheld, find_made}
 use Rattle.vch_model.specs.Lines.{phases_in, line_at}
-use Rattle.vch_model.specs.Store.{Store, Member, Message, Alive, nobody, member, with_name}
+use Rattle.vch_model.specs.Store.{Store, Named, Member, Message, Alive, nobody, member, with_name}
 use Rattle.vch_model.specs.Voucher.{Voucher}
 use Rattle.vch_model.specs.After.{store_of, without_made, is_want, lost}
+use Rattle.vch_legal.specs.Facts.{bit}
 use Rattle.vch_legal.proofs.CallerLemmas.{call_live}
-use Rattle.vch_bounds.specs.Owned.{references_of, things_in, references_in}
+use Rattle.vch_bounds.specs.Owned.{things_in, references_in}
 use Rattle.vch_bounds.specs.Rooms.{Counted, is_made, answers_in, made_in, released_in, given_up_in, room_of}
 use Rattle.vch_bounds.specs.Sums.{sum_tasks}
-use Rattle.vch_bounds.proofs.counts.Answers.{answers_few}
+use Rattle.vch_bounds.proofs.counts.AnsweredLines.{answers_few}
 use Rattle.vch_bounds.proofs.counts.Names.{weight, few_names, few_references, weight_named, weight_less, weight_gone, next_named}
 use Rattle.vch_bounds.proofs.counts.Owned.{IsCount, owned_few}
 use Rattle.vch_bounds.proofs.lists.TaskSums.{one_of_all, no_more}
@@ -121,12 +123,12 @@ counted sc past h =
           omega (arith, all, a);
       references =
           let a : references_in (store_of sc past) ≤ sum_tasks (λ u (x : Member). owned x) 1 (store_of sc past).tasks =
-          no_more (λ u (x : Member). references_of x.names + length x.queue) (λ u x. owned x) (λ u x. let b = few_references x.names in omega (arith, b)) (store_of sc past).tasks 1 in
+          no_more (λ u (x : Member). sum_by (λ (n : Named). n.refs) x.names + length x.queue) (λ u x. owned x) (λ u x. let b = few_references x.names in omega (arith, b)) (store_of sc past).tasks 1 in
           omega (arith, all, a);
       nexts = λ t.
           let given = owned_few names_given 0 given_counts sc past h in
           let a : names_given (member (store_of sc past) t) ≤ sum_tasks (λ u (x : Member). names_given x) 1 (store_of sc past).tasks =
-              one_of_all (λ u (x : Member). names_given x) (store_of sc past).tasks t nobody refl in
+          one_of_all (λ u (x : Member). names_given x) (store_of sc past).tasks t nobody refl in
           omega (arith, given, a);
     }
 
@@ -144,3 +146,7 @@ one_more sc past entry h f e =
     none : (b : Bool) → b ≡ false → (if b then 1 else 0) + made_in past ≡ made_in past
     none true e = cc
     none false e = omega arith
+
+-- what is reserved: two places more before a value is made
+pub room_grows : (sc : Scenario) (past : List Entry) (entry : Entry) → room_of sc (entry ∷ past) ≡ room_of sc past + 2 * bit (is_made entry)
+room_grows sc past entry = omega arith

@@ -19,11 +19,11 @@ use Rattle.vch_machine.specs.Beginning.{begun_one, fresh_frame, leaving_frame, e
 use Rattle.vch_machine.specs.Frames.{closed, with_frame, replied}
 use Rattle.vch_machine.specs.Naming.{one_less, handles_of, orphaned}
 use Rattle.vch_machine.specs.Next.{nth_call}
-use Rattle.vch_legal.proofs.CallerLemmas.{IsAmong, own_task, Near, near_self, near_own, near_queued, near_either, orphaned_few}
+use Rattle.vch_legal.proofs.CallerLemmas.{IsAmong, own_task, Near, near_self, near_own, near_queued, orphaned_few}
 use Rattle.vch_bounds.specs.Rooms.{made_in, given_up_in}
-use Rattle.vch_bounds.specs.Spent.{asks_left, takes_of, lets_of, flying_of, takes_in, lets_in, flying_in}
+use Rattle.vch_bounds.specs.Spent.{call_takes, call_lets, given_lets, takes_of, lets_of, flying_of, takes_in, lets_in, flying_in}
 use Rattle.vch_bounds.proofs.events.Paid.{Pays, Own, own_framed, near_among, closed_takes, closed_lets}
-use Rattle.vch_bounds.proofs.events.Makes.{MayPay}
+use Rattle.vch_bounds.proofs.events.Open.{MayPay}
 
 -- the state in which the call is counted as begun
 abbrev counted : Machine → ℕ → Machine
@@ -58,22 +58,22 @@ record BeginsCall (sc : Scenario) (t : ℕ) (m : Machine) (call : Call) : Type 0
 
 -- a frame that takes no more than a call may
 record IsFew (version : ℕ) (call : Call) (g : Option Frame) : Type 0 where
-  takes : takes_of version (Some call) g ≤ 5120
-  lets : lets_of version (Some call) g ≤ 5152
+  takes : takes_of version (Some call) g ≤ call_takes
+  lets : lets_of version (Some call) g ≤ call_lets
 
 begun_pays : (sc : Scenario) (t : ℕ) (m n : Machine) (call : Call) (g : Option Frame) → BeginsCall sc t m call → Own t (counted m t) n g
     → n.tally ≡ m.tally → n.pools ≡ m.pools → made_in n.past ≡ made_in m.past → given_up_in n.past ≡ given_up_in m.past
     → IsFew sc.version call g → Pays sc t m n
 begun_pays sc t m n call g c own tally pools made given few =
     let b : (tasked n t).begun ≡ (tasked m t).begun + 1 =
-        own.begun ∙ ap (λ (x : Tasked). x.begun) (own_task m t (begun_one (tasked m t)) c.among) in
+    own.begun ∙ ap (λ (x : Tasked). x.begun) (own_task m t (begun_one (tasked m t)) c.among) in
     let there : nth_call sc t (tasked n t).begun ≡ Some call = ap (nth_call sc t) b ∙ c.there in
     let x : takes_in sc t (tasked m t) ≡ 0 = ap (takes_of sc.version (nth_call sc t (tasked m t).begun)) c.frame in
     let y : takes_in sc t (tasked n t) ≡ takes_of sc.version (Some call) g =
-        ap (λ o. takes_of sc.version o (tasked n t).frame) there ∙ ap (takes_of sc.version (Some call)) own.frame in
+    ap (λ o. takes_of sc.version o (tasked n t).frame) there ∙ ap (takes_of sc.version (Some call)) own.frame in
     let v : lets_in sc t (tasked m t) ≡ 0 = ap (lets_of sc.version (nth_call sc t (tasked m t).begun)) c.frame in
     let w : lets_in sc t (tasked n t) ≡ lets_of sc.version (Some call) g =
-        ap (λ o. lets_of sc.version o (tasked n t).frame) there ∙ ap (lets_of sc.version (Some call)) own.frame in
+    ap (λ o. lets_of sc.version o (tasked n t).frame) there ∙ ap (lets_of sc.version (Some call)) own.frame in
     let p : flying_in t (tasked m t) ≡ 0 = ap flying_of c.frame in
     let r = ap (λ q. q.refers) tally in
     let l = ap (λ q. q.claims) tally in
@@ -84,12 +84,12 @@ begun_pays sc t m n call g c own tally pools made given few =
       used = λ k. let a = ap (λ (q : Keyed Pool). (of_key k q).used) pools in omega (arith, a, made);
     }
   where
-    take : (tn tm bn bm rn rm y : ℕ) → bn ≡ bm + 1 → tm ≡ 0 → tn ≡ y → rn ≡ rm → y ≤ 5120
-        → 4 * rn + tn + 5120 * bm ≤ 4 * rm + tm + 5120 * bn
+    take : (tn tm bn bm rn rm y : ℕ) → bn ≡ bm + 1 → tm ≡ 0 → tn ≡ y → rn ≡ rm → y ≤ call_takes
+        → 4 * rn + tn + call_takes * bm ≤ 4 * rm + tm + call_takes * bn
     take tn tm bn bm rn rm y b e h k l = omega arith
 
-    let_go : (ln lm bn bm cn cm gn gm y : ℕ) → bn ≡ bm + 1 → lm ≡ 0 → ln ≡ y → cn ≡ cm → gn ≡ gm → y ≤ 5152
-        → 4 * cn + ln + 5152 * bm + 16 * gm ≤ 4 * cm + lm + 5152 * bn + 16 * gn
+    let_go : (ln lm bn bm cn cm gn gm y : ℕ) → bn ≡ bm + 1 → lm ≡ 0 → ln ≡ y → cn ≡ cm → gn ≡ gm → y ≤ call_lets
+        → 4 * cn + ln + call_lets * bm + given_lets * gm ≤ 4 * cm + lm + call_lets * bn + given_lets * gn
     let_go ln lm bn bm cn cm gn gm y b e h k l q = omega arith
 
     make : (fn fm rn rm mn mm : ℕ) → fm ≡ 0 → rn ≡ rm → mn ≡ mm → mn + rm + fm ≤ mm + rn + fn
@@ -160,7 +160,7 @@ bytes_few : (version : ℕ) (bytes : List ℕ) → nat_lt ARRAY_BYTES (length by
     → IsFew version (calls.Create bytes) (Some (fresh_frame no_handles []))
 bytes_few version bytes e = let a = at_most (length bytes) e in record { takes = omega (arith, a); lets = omega (arith, a) }
   where
-    at_most : (n : ℕ) → nat_lt ARRAY_BYTES n ≡ false → n ≤ 5120
+    at_most : (n : ℕ) → nat_lt ARRAY_BYTES n ≡ false → n ≤ ARRAY_BYTES
     at_most n e = grind arith
 
 one_key : (k : Key) (x : Option ℕ) → length (key_if k x) ≤ 1

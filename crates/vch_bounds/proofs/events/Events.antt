@@ -1,6 +1,5 @@
 -- Every event pays.
-use Rattle.std.proofs.Common.{◌≡◌, ◌≢◌, ℕ, ◌+◌, ◌*◌, ◌≤◌, Bool, List, [], ◌∷◌, refl, true, false, arith, sym, ap, ◌∙◌, subst, length, Some, None, Option}
-use Rattle.std.specs.Prelude.{if◌then◌else◌}
+use Rattle.std.proofs.Common.{◌≡◌, ℕ, Bool, List, [], ◌∷◌, refl, true, subst, Some, None, Option}
 use Rattle.vch_base.specs.declared.kind.Kind.{Kind}
 use Rattle.vch_base.specs.declared.kind.Kind.TheVariants as kinds
 use Rattle.vch_model.specs.declared.call.Call.{Call}
@@ -8,15 +7,16 @@ use Rattle.vch_model.specs.declared.call.Call.TheVariants as calls
 use Rattle.vch_model.specs.declared.lists.Scenario.{Scenario}
 use Rattle.vch_model.specs.Lines.{is_task, phases_in}
 use Rattle.vch_machine.specs.State.{Handles, Place, Claim, Frame, Machine, tasked}
-use Rattle.vch_machine.specs.Events.{event, event_of, frame_event, work_event, on_formed, on_place, on_lets, on_the_claim}
+use Rattle.vch_machine.specs.Events.{event_of, frame_event, work_event, on_formed, on_place, on_lets, on_the_claim}
 use Rattle.vch_machine.specs.Working.{do_work}
 use Rattle.vch_machine.specs.Next.{next_kind, task_next, nth_call, call_next, frame_next}
 use Rattle.vch_legal.specs.Facts.{Fits, OptionFits}
 use Rattle.vch_legal.specs.Tie.{Ties}
-use Rattle.vch_legal.proofs.CallerLemmas.{IsAmong, is_among, Before, Called, called, Shape, shape_of, still_open, no_work, forms_at}
+use Rattle.vch_legal.proofs.CallerLemmas.{IsAmong, is_among, Before, Called, called, Shape, shape_of, still_open, no_work}
 use Rattle.vch_bounds.proofs.events.Paid.{Pays}
 use Rattle.vch_bounds.proofs.events.Leaves.{let_go_pays, ask_pays, recheck_pays}
-use Rattle.vch_bounds.proofs.events.Makes.{Calls, MayPay, make_pays, refer_pays}
+use Rattle.vch_bounds.proofs.events.Makes.{make_pays, refer_pays}
+use Rattle.vch_bounds.proofs.events.Open.{Calls, MayPay}
 use Rattle.vch_bounds.proofs.events.Works.{work_pays, exit_pays}
 use Rattle.vch_bounds.proofs.events.Places.{place_pays}
 use Rattle.vch_bounds.proofs.events.Begins.{do_begin_pays}
@@ -95,7 +95,7 @@ kind_pays sc want t m f kinds.Work fits c next shape =
     (called sc.version (tasked m t).names f (nth_call sc t (tasked m t).begun) kinds.Work next refl)
 kind_pays sc want t m f kinds.Make fits c next shape =
     let d : Called sc.version (tasked m t).names f (nth_call sc t (tasked m t).begun) kinds.Make =
-        called sc.version (tasked m t).names f (nth_call sc t (tasked m t).begun) kinds.Make next refl in
+    called sc.version (tasked m t).names f (nth_call sc t (tasked m t).begun) kinds.Make next refl in
     formed_pays sc t m _ f.forming _ (λ v call g k. make_pays sc want t m f v call
     (record { among = c.among; frame = c.frame; unanswered = d.unanswered; there = k }) shape.0)
 kind_pays sc want t m f kinds.Refer fits c next shape =
@@ -108,7 +108,7 @@ kind_pays sc want t m f kinds.Refer fits c next shape =
     }) r))
 kind_pays sc want t m f kinds.Place fits c next shape =
     let d : Called sc.version (tasked m t).names f (nth_call sc t (tasked m t).begun) kinds.Place =
-        called sc.version (tasked m t).names f (nth_call sc t (tasked m t).begun) kinds.Place next refl in
+    called sc.version (tasked m t).names f (nth_call sc t (tasked m t).begun) kinds.Place next refl in
     formed_pays sc t m _ f.forming _ (λ v call g k. place_pays sc want t m f v call
     (record { among = c.among; frame = c.frame; unanswered = d.unanswered; there = k }))
 kind_pays sc want t m f kinds.LetGo fits c next shape =

@@ -1,16 +1,14 @@
 -- LetGo, Ask and Recheck.
-use Rattle.std.proofs.Common.{◌≡◌, ℕ, suc, ◌+◌, ◌*◌, ◌≤◌, Bool, true, false, List, [], ◌∷◌, refl, arith, sym, ap, ◌∙◌, subst, length, Some, None, Option}
+use Rattle.std.proofs.Common.{◌≡◌, ℕ, suc, ◌+◌, ◌*◌, ◌≤◌, Bool, true, false, List, ◌∷◌, refl, arith, ap, length, Some, None, Option}
 use Rattle.std.specs.Prelude.{if◌then◌else◌}
 use Rattle.vch_base.specs.Keyed.{of_key}
 use Rattle.vch_model.specs.declared.call.Call.{Call}
 use Rattle.vch_model.specs.declared.lists.Scenario.{Scenario}
-use Rattle.vch_machine.specs.State.{Place, Claim, Frame, Machine, Pool, Tally, tasked}
+use Rattle.vch_machine.specs.State.{Place, Claim, Frame, Machine, tasked}
 use Rattle.vch_machine.specs.Frames.{closed, with_frame, tallied}
 use Rattle.vch_machine.specs.Leaving.{claim_if, more_claims, more_free, do_let_go, released, with_answer, one_ask, do_ask, again, do_recheck}
-use Rattle.vch_machine.specs.Next.{nth_call}
 use Rattle.vch_legal.proofs.CallerLemmas.{IsAmong}
-use Rattle.vch_bounds.specs.Spent.{takes_of, lets_of}
-use Rattle.vch_bounds.proofs.events.Paid.{Pays, Own, own_framed, Costs, Counts, closed_costs, closed_flying, quiet_pays, as_used, used_with}
+use Rattle.vch_bounds.proofs.events.Paid.{Pays, Own, own_framed, Costs, closed_costs, closed_flying, quiet_pays, as_used, used_with}
 
 none_made : (n : ℕ) → n ≡ n + 0
 none_made n = omega arith
@@ -38,7 +36,7 @@ let_go_pays sc t m f q rest among frame lets = by_claim (claim_if (with_frame m 
         → Pays sc t m (tallied (more_claims claim) (with_frame m t (closed (record f { lets = rest; claim = claim }))))
     pays claim n l refers claims =
         let own : Own t m (with_frame m t (closed (record f { lets = rest; claim = claim }))) (closed (record f { lets = rest; claim = claim })) =
-            own_framed t m m (closed (record f { lets = rest; claim = claim })) among refl in
+        own_framed t m m (closed (record f { lets = rest; claim = claim })) among refl in
         quiet_pays sc t m (tallied (more_claims claim) (with_frame m t (closed (record f { lets = rest; claim = claim })))) f
         (closed (record f { lets = rest; claim = claim })) n 0 frame
         (record { begun = own.begun; frame = own.frame })
@@ -69,14 +67,14 @@ ask_pays sc t m f c among frame = by_raced c.raced
         (if b then with_frame m t (with_answer f c false) else with_frame (released m c.place) t (with_answer f c true)))
     by_raced true =
         let own : Own t m (with_frame m t (with_answer f c false)) (with_answer f c false) =
-            own_framed t m m (with_answer f c false) among refl in
+        own_framed t m m (with_answer f c false) among refl in
         quiet_pays sc t m (tallied one_ask (with_frame m t (with_answer f c false))) f (with_answer f c false) 0 0 frame
         (record { begun = own.begun; frame = own.frame })
         (record { refers = none_made _; claims = none_made _; given = none_made _ })
         (still_costs sc.version _ f (Some (record c { answer = Some false }))) refl (λ k. as_used _) refl
     by_raced false =
         let own : Own t m (with_frame (released m c.place) t (with_answer f c true)) (with_answer f c true) =
-            own_framed t m (released m c.place) (with_answer f c true) among refl in
+        own_framed t m (released m c.place) (with_answer f c true) among refl in
         quiet_pays sc t m (tallied one_ask (with_frame (released m c.place) t (with_answer f c true))) f (with_answer f c true) 0 0 frame
         (record { begun = own.begun; frame = own.frame })
         (record { refers = none_made _; claims = none_made _; given = omega arith })

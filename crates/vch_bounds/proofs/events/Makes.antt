@@ -1,7 +1,7 @@
 -- Make and Refer: a key that is asked leaves four fewer, which its receipt counts for, and then its reference.
 use Rattle.std.proofs.Common.{◌≡◌, ℕ, ◌+◌, ◌-◌, ◌*◌, ◌≤◌, Bool, List, [], ◌∷◌, ◌++◌, refl, true, false, not, ◌&&◌, arith, sym, ap, ◌∙◌, subst, length, length-append, drop, Some, None, Option, Ok, Err, Result}
 use Rattle.std.proofs.lemmas.List.{length-map}
-use Rattle.std.specs.Prelude.{if◌then◌else◌, is_some, ◌==◌, ℤ}
+use Rattle.std.specs.Prelude.{if◌then◌else◌, ◌==◌, ℤ}
 use Rattle.vch_base.specs.declared.codes.TheConstants.{KERN_RESOURCE_SHORTAGE}
 use Rattle.vch_base.specs.declared.key.Key.{Key}
 use Rattle.vch_base.specs.declared.key.TheConstants.{ALL_KEYS}
@@ -13,55 +13,16 @@ use Rattle.vch_recipe.specs.declared.recipe.Recipe.{Recipe}
 use Rattle.vch_model.specs.declared.call.Call.{Call}
 use Rattle.vch_model.specs.declared.call.Call.TheVariants as calls
 use Rattle.vch_model.specs.declared.lists.Scenario.{Scenario}
-use Rattle.vch_model.specs.Replies.{refused}
 use Rattle.vch_machine.specs.State.{Handles, Place, Living, Named, Pool, Claim, Frame, Tasked, Machine, tasked, handle_of, is_empty}
-use Rattle.vch_machine.specs.Frames.{closed, with_frame, tallied, refuse}
+use Rattle.vch_machine.specs.Frames.{closed, with_frame, tallied}
 use Rattle.vch_machine.specs.Making.{Asked, asked_by, asked_first, asked_transfer, keys_left, tail_keys, fresh_handle, fewer_free, minted, race_claim, back_claim, on_claim, on_task, on_claims, given_receipt, made_at, make_done, make_asked, do_make, one_refer, do_refer}
-use Rattle.vch_machine.specs.Naming.{item, option_places}
-use Rattle.vch_machine.specs.Next.{nth_call}
-use Rattle.vch_legal.specs.Facts.{bit}
-use Rattle.vch_legal.specs.Tie.{moved_place, moved_keys, moved_place_first, moved_keys_first, place_with, keys_with}
-use Rattle.vch_legal.proofs.CallerLemmas.{IsAmong, record_long, few_managed, at_keys, moved_is, claims_task, option_few, near_self}
+use Rattle.vch_machine.specs.Naming.{item}
+use Rattle.vch_legal.specs.Tie.{moved_place, moved_keys, moved_place_first, moved_keys_first}
+use Rattle.vch_legal.proofs.CallerLemmas.{IsAmong, record_long, few_managed, at_keys, moved_is, claims_task}
 use Rattle.vch_bounds.specs.Rooms.{made_in}
-use Rattle.vch_bounds.specs.Spent.{asks_left, takes_of, lets_of, flying_of}
-use Rattle.vch_bounds.proofs.events.Paid.{Pays, Own, own_framed, Costs, Counts, closed_costs, closed_flying, frame_pays, quiet_pays, answered_pays, as_used, used_with}
-
--- Of a call that is not answered.
-
-pub takes_at : (version : ℕ) (o : Option Call) (g : Frame) (call : Call) (r : Option Place) → g.answered ≡ false → o ≡ Some call
-    → g.receipt ≡ r → takes_of version o (Some g)
-    ≡ asks_left call (place_with version call g.at_byte g.keys r) (keys_with version call g.at_byte g.keys r) + 4 * bit (is_some r)
-takes_at version o g call r a e q = rw (a, e, q) refl
-
-pub lets_at : (version : ℕ) (o : Option Call) (g : Frame) → g.answered ≡ false
-    → lets_of version o (Some g) ≡ 4 * length g.lets + 32 + takes_of version o (Some g)
-lets_at version o g a = rw a refl
-
--- a call that is under way at a task
-pub record Calls (sc : Scenario) (t : ℕ) (m : Machine) (f : Frame) (call : Call) : Type 0 where
-  pub among : IsAmong t m.tasks
-  pub frame : (tasked m t).frame ≡ Some f
-  pub unanswered : f.answered ≡ false
-  pub there : nth_call sc t (tasked m t).begun ≡ Some call
-
--- the call goes on without a receipt: n handles more at most are to be let go, and it may ask n fewer
-pub on_costs : (version : ℕ) (o : Option Call) (f g : Frame) (call : Call) (n : ℕ) → o ≡ Some call → f.answered ≡ false
-    → g.answered ≡ false → f.receipt ≡ None → g.receipt ≡ None
-    → asks_left call g.at_byte g.keys + 4 * n ≤ asks_left call f.at_byte f.keys → length g.lets ≤ length f.lets + n
-    → Costs version o (Some f) (Some g) 0 0 0
-on_costs version o f g call n there open_ still none gone fewer few =
-    let a : takes_of version o (Some f) ≡ asks_left call f.at_byte f.keys + 4 * 0 = takes_at version o f call None open_ there none in
-    let b : takes_of version o (Some g) ≡ asks_left call g.at_byte g.keys + 4 * 0 = takes_at version o g call None still there gone in
-    let c = lets_at version o f open_ in
-    let d = lets_at version o g still in
-    record { takes = omega (arith, a, b, fewer); lets = omega (arith, a, b, c, d, fewer, few) }
-
-pub refuse_pays : (sc : Scenario) (t : ℕ) (m : Machine) (f : Frame) (call : Call) (code : ℤ) → IsAmong t m.tasks
-    → (tasked m t).frame ≡ Some f → f.answered ≡ false → Pays sc t m (refuse m t f call code)
-refuse_pays sc t m f call code among frame open_ =
-    answered_pays sc t m m f (record f { forming = None; answered = true; keys = []; lets = f.lets ++ option_places f.forming }) call
-    (refused code) (option_places f.forming) frame open_ among (near_self t m) refl refl refl refl
-    (let a = option_few f.forming in omega (arith, a))
+use Rattle.vch_bounds.specs.Spent.{asks_left, takes_of, flying_of}
+use Rattle.vch_bounds.proofs.events.Open.{takes_at, lets_at, Calls, on_costs, refuse_pays, MayPay, pay_if}
+use Rattle.vch_bounds.proofs.events.Paid.{Pays, Own, own_framed, Costs, Counts, closed_costs, closed_flying, frame_pays, quiet_pays, as_used, used_with}
 
 -- A key that is asked.
 
@@ -177,8 +138,8 @@ receipt_costs : (version : ℕ) (o : Option Call) (f : Frame) (call : Call) (p :
 receipt_costs version o f call p claim there open_ none fewer =
     let a : takes_of version o (Some f) ≡ asks_left call f.at_byte f.keys + 4 * 0 = takes_at version o f call None open_ there none in
     let b : takes_of version o (Some (record f { receipt = Some p; claim = claim })) ≡ asks_left call
-            (moved_place version call f.at_byte f.keys) (moved_keys version call f.at_byte f.keys) + 4 * 1 =
-        takes_at version o (record f { receipt = Some p; claim = claim }) call (Some p) open_ there refl in
+    (moved_place version call f.at_byte f.keys) (moved_keys version call f.at_byte f.keys) + 4 * 1 =
+    takes_at version o (record f { receipt = Some p; claim = claim }) call (Some p) open_ there refl in
     let c = lets_at version o f open_ in
     let d = lets_at version o (record f { receipt = Some p; claim = claim }) open_ in
     record { takes = omega (arith, a, b, fewer); lets = omega (arith, a, b, c, d, fewer) }
@@ -199,8 +160,8 @@ received_pays sc t m mid f call p c receipt fewer tasks counts made used =
     own : Own t m (given_receipt mid t f p) (Some (record f { receipt = Some p; claim = on_claim (race_claim p) f.claim }))
     own =
         let a : Own t m (with_frame mid t (Some (record f { receipt = Some p }))) (Some (record f { receipt = Some p })) =
-            own_framed t m mid (Some (record f { receipt = Some p })) (subst (IsAmong t) (sym tasks) c.among)
-            (ap (λ ts. (tasked (record m { tasks = ts }) t).begun) tasks) in
+        own_framed t m mid (Some (record f { receipt = Some p })) (subst (IsAmong t) (sym tasks) c.among)
+        (ap (λ ts. (tasked (record m { tasks = ts }) t).begun) tasks) in
         let b = claims_task (with_frame mid t (Some (record f { receipt = Some p }))) (race_claim p) t in
         record {
           begun = ap (λ (x : Tasked). x.begun) b ∙ a.begun;
@@ -233,16 +194,6 @@ done_pays sc t m f v call k (Err code) c receipt fewer = refuse_pays sc t m f ca
 done_pays sc t m f v call k (Ok None) c receipt fewer = lost_pays sc t m f v call k c receipt fewer
 done_pays sc t m f v call k (Ok (Some x)) c receipt fewer = value_pays sc t m f call k x (handle_of m.live k x) c receipt fewer
 
--- where there is a next state
-abbrev pub MayPay : Scenario → ℕ → Machine → Option Machine → Type 0
-MayPay sc t m None = Unit {0}
-MayPay sc t m (Some n) = Pays sc t m n
-
-pub pay_if : (sc : Scenario) (t : ℕ) (m : Machine) (b : Bool) (x y : Option Machine) → MayPay sc t m x → MayPay sc t m y
-    → MayPay sc t m (if b then x else y)
-pay_if sc t m true x y h k = h
-pay_if sc t m false x y h k = k
-
 asked_pays : (sc : Scenario) (t : ℕ) (m : Machine) (f : Frame) (v : Handles) (call : Call) (a : Option Asked) → Calls sc t m f call
     → f.receipt ≡ None → asked_by sc m t f v call ≡ a → MayPay sc t m (make_asked sc.version m t f v call a)
 asked_pays sc t m f v call None c receipt e = tt
@@ -262,9 +213,9 @@ refer_costs : (version : ℕ) (o : Option Call) (f : Frame) (v : Option Handles)
     (moved_place version call f.at_byte f.keys) (moved_keys version call f.at_byte f.keys))) 1 0 0
 refer_costs version o f v call q lets there open_ some few =
     let a : takes_of version o (Some f) ≡ asks_left call (moved_place version call f.at_byte f.keys)
-            (moved_keys version call f.at_byte f.keys) + 4 * 1 = takes_at version o f call (Some q) open_ there some in
+    (moved_keys version call f.at_byte f.keys) + 4 * 1 = takes_at version o f call (Some q) open_ there some in
     let b : takes_of version o (Some next) ≡ asks_left call (moved_place version call f.at_byte f.keys)
-            (moved_keys version call f.at_byte f.keys) + 4 * 0 = takes_at version o next call None open_ there refl in
+    (moved_keys version call f.at_byte f.keys) + 4 * 0 = takes_at version o next call None open_ there refl in
     let c = lets_at version o f open_ in
     let d = lets_at version o next open_ in
     let e = length-append f.lets lets in

@@ -1,26 +1,25 @@
 -- What an event of one task has to pay for, and what it costs where it changes the frame alone.
 use Rattle.std.proofs.Common.{◌≡◌, ℕ, ◌+◌, ◌*◌, ◌≤◌, Bool, true, false, List, [], ◌∷◌, ◌++◌, refl, arith, sym, ap, ◌∙◌, subst, length, length-append, Some, None, Option}
-use Rattle.std.specs.Prelude.{is_some}
 use Rattle.vch_base.specs.declared.key.Key.{Key}
 use Rattle.vch_base.specs.declared.key.Key.TheVariants as keys
 use Rattle.vch_base.specs.Keyed.{Keyed, of_key, with_key}
 use Rattle.vch_model.specs.declared.call.Call.{Call}
-use Rattle.vch_model.specs.declared.entry.Entry.{Entry}
 use Rattle.vch_model.specs.declared.entry.Reply.{Reply}
 use Rattle.vch_model.specs.declared.lists.Scenario.{Scenario}
-use Rattle.vch_machine.specs.State.{Handles, Place, Claim, Pool, Frame, Tasked, Machine, tasked}
+use Rattle.vch_machine.specs.State.{Place, Claim, Pool, Frame, Tasked, Machine, tasked}
 use Rattle.vch_machine.specs.Frames.{closed, with_frame, replied}
 use Rattle.vch_machine.specs.Next.{nth_call}
+use Rattle.vch_legal.specs.Facts.{most_lets}
 use Rattle.vch_legal.proofs.CallerLemmas.{IsAmong, own_task, Near}
 use Rattle.vch_bounds.specs.Rooms.{made_in, given_up_in}
-use Rattle.vch_bounds.specs.Spent.{takes_of, lets_of, flying_of, takes_in, lets_in, flying_in}
+use Rattle.vch_bounds.specs.Spent.{call_takes, call_lets, given_lets, takes_of, lets_of, flying_of, takes_in, lets_in, flying_in}
 
 -- what an event of a task owes: its own share of each bound
 pub record Pays (sc : Scenario) (t : ℕ) (m n : Machine) : Type 0 where
-  pub refers : 4 * n.tally.refers + takes_in sc t (tasked n t) + 5120 * (tasked m t).begun
-      ≤ 4 * m.tally.refers + takes_in sc t (tasked m t) + 5120 * (tasked n t).begun
-  pub claims : 4 * n.tally.claims + lets_in sc t (tasked n t) + 5152 * (tasked m t).begun + 16 * given_up_in m.past
-      ≤ 4 * m.tally.claims + lets_in sc t (tasked m t) + 5152 * (tasked n t).begun + 16 * given_up_in n.past
+  pub refers : 4 * n.tally.refers + takes_in sc t (tasked n t) + call_takes * (tasked m t).begun
+      ≤ 4 * m.tally.refers + takes_in sc t (tasked m t) + call_takes * (tasked n t).begun
+  pub claims : 4 * n.tally.claims + lets_in sc t (tasked n t) + call_lets * (tasked m t).begun + given_lets * given_up_in m.past
+      ≤ 4 * m.tally.claims + lets_in sc t (tasked m t) + call_lets * (tasked n t).begun + given_lets * given_up_in n.past
   pub made : made_in n.past + m.tally.refers + flying_in t (tasked m t) ≤ made_in m.past + n.tally.refers + flying_in t (tasked n t)
   pub used : (k : Key) → (of_key k n.pools).used + made_in m.past ≤ (of_key k m.pools).used + made_in n.past
 
@@ -63,7 +62,7 @@ used_with keys.Test keys.Test p pools n h = h
 -- what a change of the frame costs: references taken (r), claims (c), and names and messages given up (d)
 pub record Costs (version : ℕ) (call : Option Call) (f g : Option Frame) (r c d : ℕ) : Type 0 where
   pub takes : 4 * r + takes_of version call g ≤ takes_of version call f
-  pub lets : 4 * c + lets_of version call g ≤ lets_of version call f + 16 * d
+  pub lets : 4 * c + lets_of version call g ≤ lets_of version call f + given_lets * d
 
 -- an event that costs so much
 pub record Counts (m n : Machine) (r c d : ℕ) : Type 0 where
@@ -78,15 +77,15 @@ pub frame_pays : (sc : Scenario) (t : ℕ) (m n : Machine) (f g : Option Frame) 
 frame_pays sc t m n f g r c d frame own counts costs made used =
     let b : (tasked n t).begun ≡ (tasked m t).begun = own.begun in
     let x : takes_in sc t (tasked m t) ≡ takes_of sc.version (nth_call sc t (tasked m t).begun) f =
-        ap (takes_of sc.version (nth_call sc t (tasked m t).begun)) frame in
+    ap (takes_of sc.version (nth_call sc t (tasked m t).begun)) frame in
     let y : takes_in sc t (tasked n t) ≡ takes_of sc.version (nth_call sc t (tasked m t).begun) g =
-        ap (λ k. takes_of sc.version (nth_call sc t k) (tasked n t).frame) own.begun
-        ∙ ap (takes_of sc.version (nth_call sc t (tasked m t).begun)) own.frame in
+    ap (λ k. takes_of sc.version (nth_call sc t k) (tasked n t).frame) own.begun
+    ∙ ap (takes_of sc.version (nth_call sc t (tasked m t).begun)) own.frame in
     let v : lets_in sc t (tasked m t) ≡ lets_of sc.version (nth_call sc t (tasked m t).begun) f =
-        ap (lets_of sc.version (nth_call sc t (tasked m t).begun)) frame in
+    ap (lets_of sc.version (nth_call sc t (tasked m t).begun)) frame in
     let w : lets_in sc t (tasked n t) ≡ lets_of sc.version (nth_call sc t (tasked m t).begun) g =
-        ap (λ k. lets_of sc.version (nth_call sc t k) (tasked n t).frame) own.begun
-        ∙ ap (lets_of sc.version (nth_call sc t (tasked m t).begun)) own.frame in
+    ap (λ k. lets_of sc.version (nth_call sc t k) (tasked n t).frame) own.begun
+    ∙ ap (lets_of sc.version (nth_call sc t (tasked m t).begun)) own.frame in
     let p : flying_in t (tasked m t) ≡ flying_of f = ap flying_of frame in
     let q : flying_in t (tasked n t) ≡ flying_of g = ap flying_of own.frame in
     record {
@@ -97,11 +96,11 @@ frame_pays sc t m n f g r c d frame own counts costs made used =
     }
   where
     take : (tn tm bn bm rn rm x y : ℕ) → bn ≡ bm → tm ≡ x → tn ≡ y → rn ≡ rm + r → 4 * r + y ≤ x
-        → 4 * rn + tn + 5120 * bm ≤ 4 * rm + tm + 5120 * bn
+        → 4 * rn + tn + call_takes * bm ≤ 4 * rm + tm + call_takes * bn
     take tn tm bn bm rn rm x y b e h k l = omega arith
 
-    let_go : (ln lm bn bm cn cm gn gm x y : ℕ) → bn ≡ bm → lm ≡ x → ln ≡ y → cn ≡ cm + c → gn ≡ gm + d → 4 * c + y ≤ x + 16 * d
-        → 4 * cn + ln + 5152 * bm + 16 * gm ≤ 4 * cm + lm + 5152 * bn + 16 * gn
+    let_go : (ln lm bn bm cn cm gn gm x y : ℕ) → bn ≡ bm → lm ≡ x → ln ≡ y → cn ≡ cm + c → gn ≡ gm + d → 4 * c + y ≤ x + given_lets * d
+        → 4 * cn + ln + call_lets * bm + given_lets * gm ≤ 4 * cm + lm + call_lets * bn + given_lets * gn
     let_go ln lm bn bm cn cm gn gm x y b e h k l q = omega arith
 
     make : (fn fm rn rm mn mm x y : ℕ) → fm ≡ x → fn ≡ y → rn ≡ rm + r → mn + x ≤ mm + r + y
@@ -150,8 +149,10 @@ pub closed_costs : (version : ℕ) (call : Option Call) (f : Option Frame) (g : 
 closed_costs version call f g r c d h =
     let a = closed_takes version call g in
     let b = closed_lets version call g in
-    record { takes = subst (λ k. 4 * r + k ≤ takes_of version call f) (sym a) h.takes;
-             lets = subst (λ k. 4 * c + k ≤ lets_of version call f + 16 * d) (sym b) h.lets }
+    record {
+      takes = subst (λ k. 4 * r + k ≤ takes_of version call f) (sym a) h.takes;
+      lets = subst (λ k. 4 * c + k ≤ lets_of version call f + given_lets * d) (sym b) h.lets;
+    }
 
 -- an event that changes the frame, answers the call or not, and makes nothing
 pub quiet_pays : (sc : Scenario) (t : ℕ) (m n : Machine) (f : Frame) (g : Option Frame) (c d : ℕ) → (tasked m t).frame ≡ Some f
@@ -168,7 +169,7 @@ quiet_pays sc t m n f g c d frame own counts costs made pools flying =
 
 -- the call is answered, and at most the handles of two vouchers more are to be let go
 pub answered_costs : (version : ℕ) (call : Option Call) (f g : Frame) (lets : List Place) → f.answered ≡ false → g.answered ≡ true
-    → g.receipt ≡ f.receipt → g.lets ≡ f.lets ++ lets → length lets ≤ 8 → Costs version call (Some f) (Some g) 0 0 0
+    → g.receipt ≡ f.receipt → g.lets ≡ f.lets ++ lets → length lets ≤ most_lets → Costs version call (Some f) (Some g) 0 0 0
 answered_costs version call f g lets open_ answered receipt added few = by_parts f.answered g.answered g.receipt f.receipt open_ answered receipt
   where
     long : length g.lets ≡ length f.lets + length lets
@@ -190,7 +191,7 @@ near_among t m mid near among = (among.0, subst (λ i. t ≤ i) (sym near.tasks)
 -- an event that answers the call
 pub answered_pays : (sc : Scenario) (t : ℕ) (m mid : Machine) (f g : Frame) (call : Call) (reply : Reply) (lets : List Place)
     → (tasked m t).frame ≡ Some f → f.answered ≡ false → IsAmong t m.tasks → Near t m mid → mid.past ≡ m.past
-    → g.answered ≡ true → g.receipt ≡ f.receipt → g.lets ≡ f.lets ++ lets → length lets ≤ 8
+    → g.answered ≡ true → g.receipt ≡ f.receipt → g.lets ≡ f.lets ++ lets → length lets ≤ most_lets
     → Pays sc t m (replied (with_frame mid t (closed g)) t call reply)
 answered_pays sc t m mid f g call reply lets frame open_ among near past answered receipt added few =
     quiet_pays sc t m (replied (with_frame mid t (closed g)) t call reply) f (closed g) 0 0 frame

@@ -1,6 +1,5 @@
 -- Place: the call is answered, and the handles of two vouchers at most are to be let go.
-use Rattle.std.proofs.Common.{◌≡◌, ℕ, ◌+◌, ◌*◌, ◌≤◌, Bool, List, [], ◌∷◌, ◌++◌, refl, true, false, arith, sym, ap, ◌∙◌, length, length-append, Some, None, Option}
-use Rattle.std.specs.Prelude.{if◌then◌else◌}
+use Rattle.std.proofs.Common.{◌≡◌, ℕ, ◌≤◌, Bool, List, [], ◌∷◌, ◌++◌, refl, true, false, arith, length, length-append, Some, None, Option}
 use Rattle.vch_base.specs.declared.codes.TheConstants.{KERN_RESOURCE_SHORTAGE, MACH_SEND_TIMED_OUT}
 use Rattle.vch_model.specs.declared.call.Call.{Call}
 use Rattle.vch_model.specs.declared.call.Call.TheVariants as calls
@@ -12,13 +11,14 @@ use Rattle.vch_machine.specs.Beginning.{enqueued, is_full}
 use Rattle.vch_machine.specs.Frames.{with_frame, replied}
 use Rattle.vch_machine.specs.Naming.{name_of, name_for, one_less, with_name, handles_of, orphaned, doubled}
 use Rattle.vch_machine.specs.Placing.{ended, moved_name, place_create, place_send, place_recv, do_place}
+use Rattle.vch_legal.specs.Facts.{most_lets}
 use Rattle.vch_legal.proofs.CallerLemmas.{Near, near_self, near_then, near_own, near_queued, named_begun, orphaned_few, doubled_few}
 use Rattle.vch_bounds.proofs.events.Paid.{Pays, answered_pays}
-use Rattle.vch_bounds.proofs.events.Makes.{Calls, MayPay, pay_if, refuse_pays}
+use Rattle.vch_bounds.proofs.events.Open.{Calls, MayPay, pay_if, refuse_pays}
 
 -- the call is over, in a state that the event passes through
 ended_pays : (sc : Scenario) (t : ℕ) (m mid : Machine) (f : Frame) (call : Call) (reply : Reply) (lets : List Place) → Calls sc t m f call
-    → Near t m mid → mid.past ≡ m.past → length lets ≤ 8 → Pays sc t m (replied (with_frame mid t (ended f lets)) t call reply)
+    → Near t m mid → mid.past ≡ m.past → length lets ≤ most_lets → Pays sc t m (replied (with_frame mid t (ended f lets)) t call reply)
 ended_pays sc t m mid f call reply lets c near past few =
     answered_pays sc t m mid f (record f { forming = None; answered = true; keys = []; lets = f.lets ++ lets }) call reply lets
     c.frame c.unanswered c.among near past refl refl refl few
@@ -31,7 +31,7 @@ create_pays sc t m f v call c =
     (near_own t m (with_name (tasked m t) v (name_of (tasked m t).names v)) (named_begun (tasked m t) v (name_of (tasked m t).names v))) refl
     (let a = doubled_few m v in omega (arith, a))
 
-two_vouchers : (m n : Machine) (v : Handles) (w : Option Handles) → length (doubled m v ++ orphaned n w) ≤ 8
+two_vouchers : (m n : Machine) (v : Handles) (w : Option Handles) → length (doubled m v ++ orphaned n w) ≤ most_lets
 two_vouchers m n v w =
     let a = length-append (doubled m v) (orphaned n w) in
     let b = doubled_few m v in

@@ -4,7 +4,7 @@ use Rattle.std.specs.Prelude.{if◌then◌else◌, ℤ}
 use Rattle.vch_base.specs.declared.codes.TheConstants.{KERN_INVALID_ARGUMENT}
 use Rattle.vch_base.specs.declared.key.Key.{Key}
 use Rattle.vch_base.specs.Keyed.{Keyed, of_key}
-use Rattle.vch_base.specs.declared.kind.Kind.{Kind}
+use Rattle.vch_base.specs.Keys.{every_key}
 use Rattle.vch_base.specs.declared.kind.Kind.TheVariants as kinds
 use Rattle.vch_recipe.specs.Recipes.{First, One, End, HeaderCut, ContentCut, first_of}
 use Rattle.vch_recipe.specs.declared.recipe.Recipe.{Recipe}
@@ -22,9 +22,9 @@ use Rattle.vch_machine.specs.Working.{WorkDone, work_first, work_done, do_work, 
 use Rattle.vch_legal.specs.Tie.{KeysFit, FormsCreate}
 use Rattle.vch_legal.proofs.CallerLemmas.{Before, Near, near_self, near_own, forms_at, seen_names, asks_same, some_kind, no_work, record_long, first_few, orphaned_few}
 use Rattle.vch_bounds.specs.Rooms.{made_in, given_up_in}
-use Rattle.vch_bounds.specs.Spent.{asks_left}
+use Rattle.vch_bounds.specs.Spent.{asks_left, given_lets}
 use Rattle.vch_bounds.proofs.events.Paid.{Pays, Own, own_framed, Costs, quiet_pays, answered_pays, near_among, as_used}
-use Rattle.vch_bounds.proofs.events.Makes.{Calls, on_costs, refuse_pays}
+use Rattle.vch_bounds.proofs.events.Open.{Calls, on_costs, refuse_pays}
 
 none_more : (n : ℕ) → n ≡ n + 0
 none_more n = omega arith
@@ -60,7 +60,7 @@ record_pays sc t m f v bytes r rest (Ok w) c receipt empty e g =
     few : length (f.lets ++ w.left) ≤ length f.lets + 4
     few =
         let a = length-append f.lets w.left in
-        let b : length w.left ≤ 4 = rw g at (first_few sc.version (tasked m t).names (One r rest) v) in
+        let b : length w.left ≤ length every_key = rw g at (first_few sc.version (tasked m t).names (One r rest) v) in
         omega (arith, a, b)
 
 create_pays : (sc : Scenario) (t : ℕ) (m : Machine) (f : Frame) (v : Handles) (bytes : List ℕ) (first : First)
@@ -111,18 +111,18 @@ work_pays sc t m f v calls.Exit s c forming receipt next =
 -- Work, of an exit.
 
 -- the frame has four handles more to let go
-letting_costs : (version : ℕ) (o : Option Call) (f : Frame) (lets : List Place) → length lets ≤ 4
+letting_costs : (version : ℕ) (o : Option Call) (f : Frame) (lets : List Place) → length lets ≤ length every_key
     → Costs version o (Some f) (Some (record f { lets = f.lets ++ lets })) 0 0 1
 letting_costs version o f lets few =
     let a = length-append f.lets lets in
     record { takes = omega arith; lets = more _ _ _ _ _ a few }
   where
-    more : (x y z p q : ℕ) → x ≡ y + z → z ≤ 4 → 4 * 0 + (4 * x + p + q) ≤ 4 * y + p + q + 16 * 1
+    more : (x y z p q : ℕ) → x ≡ y + z → z ≤ length every_key → 4 * 0 + (4 * x + p + q) ≤ 4 * y + p + q + given_lets * 1
     more x y z p q a l = omega (arith, a, l)
 
 -- a name or a message is given up
 given_pays : (sc : Scenario) (t : ℕ) (m n mid : Machine) (f : Frame) (call : Call) (lets : List Place) → Calls sc t m f call
-    → Near t m mid → length lets ≤ 4 → Own t mid n (Some (record f { lets = f.lets ++ lets }))
+    → Near t m mid → length lets ≤ length every_key → Own t mid n (Some (record f { lets = f.lets ++ lets }))
     → n.tally ≡ m.tally → n.pools ≡ m.pools → made_in n.past ≡ made_in m.past → given_up_in n.past ≡ given_up_in m.past + 1
     → Pays sc t m n
 given_pays sc t m n mid f call lets c near few own tally pools made given =

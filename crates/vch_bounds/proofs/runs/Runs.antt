@@ -1,10 +1,10 @@
 -- What bounds a state of a run, in numbers.
-use Rattle.std.proofs.Common.{◌≡◌, ℕ, zero, suc, ◌+◌, ◌-◌, ◌*◌, ◌<◌, ◌≤◌, Bool, cond, List, [], ◌∷◌, refl, true, false, not, ◌&&◌, arith, sym, ap, ◌∙◌, subst, length, map, get_or, Some, None, Option}
+use Rattle.std.proofs.Common.{◌≡◌, ℕ, suc, ◌+◌, ◌*◌, ◌<◌, ◌≤◌, Bool, cond, List, [], ◌∷◌, refl, true, false, ◌&&◌, arith, sym, ap, ◌∙◌, subst, length, map, get_or, Some, None, Option}
 use Rattle.std.proofs.lemmas.List.{length-map}
 use Rattle.std.specs.Prelude.{is_some, nat_lt, nat_le}
-use Rattle.std.specs.List.{filter}
-use Rattle.vch_base.specs.declared.key.Key.{Key}
-use Rattle.vch_base.specs.Keyed.{of_key}
+use Rattle.std.specs.List.{filter, sum_by}
+use Rattle.std.proofs.lemmas.List.Sums.{sum_by-cons}
+use Rattle.vch_model.specs.Store as store
 use Rattle.vch_model.specs.declared.entry.Entry.{Entry}
 use Rattle.vch_model.specs.declared.lists.Scenario.{Scenario}
 use Rattle.vch_model.specs.Lines.{is_task, lines_of, lines_until, calls_in, phases_in}
@@ -12,20 +12,19 @@ use Rattle.vch_model.specs.Store.{Store, Member, member}
 use Rattle.vch_model.specs.After.{store_of}
 use Rattle.vch_model.specs.declared.call.Call.{Call}
 use Rattle.vch_model.specs.declared.call.Line.{Line}
-use Rattle.vch_machine.specs.State.{Living, Named, Frame, Tasked, Machine, idle, tasked, named_of, message_of, member_of, seen, start}
+use Rattle.vch_machine.specs.State.{Living, Named, Frame, Tasked, Machine, idle, tasked, named_of, message_of, member_of, start}
 use Rattle.vch_machine.specs.Next.{nth_call}
 use Rattle.vch_machine.specs.Schedules.{Move, happens, run, run_from_start}
 use Rattle.vch_legal.specs.Facts.{bit}
 use Rattle.vch_legal.specs.Tie.{Ties, is_answering}
-use Rattle.vch_legal.proofs.CallerLemmas.{lines_of_tasks, all_of_tasks, all_lines, member_seen, start_stands, happens_stands, reached_stands}
-use Rattle.vch_bounds.specs.Limits.{Limited}
-use Rattle.vch_bounds.specs.Owned.{references_of, references_in}
-use Rattle.vch_bounds.specs.Rooms.{calls_of, answers_in, made_in, given_up_in, room_of, Counted}
-use Rattle.vch_bounds.specs.Spent.{Spent, Bounded, InNumbers, takes_of, flying_of, takes_in, flying_in, begun_in, open_in, owned_in, user_references, in_all}
+use Rattle.vch_legal.proofs.CallerLemmas.{lines_of_tasks, all_of_tasks, member_seen, start_stands, happens_stands, reached_stands}
+use Rattle.vch_bounds.specs.Bounded.{Limited, Bounded, InNumbers, open_in, owned_in}
+use Rattle.vch_bounds.specs.Owned.{references_in}
+use Rattle.vch_bounds.specs.Rooms.{calls_of, answers_in, Counted}
+use Rattle.vch_bounds.specs.Spent.{Spent, takes_of, flying_of, takes_in, flying_in, begun_in, in_all}
 use Rattle.vch_bounds.specs.Sums.{sum_tasks}
-use Rattle.vch_bounds.proofs.counts.Answers.{of_task, answers_of, answers_in_range}
+use Rattle.vch_bounds.proofs.counts.AnsweredLines.{answers_of, answers_in_range}
 use Rattle.vch_bounds.proofs.counts.Rooms.{counted, within}
-use Rattle.vch_bounds.proofs.lists.TaskSums.{no_more}
 use Rattle.vch_bounds.proofs.runs.Steps.{start_spent, move_spent}
 
 -- A run.
@@ -85,10 +84,10 @@ begun_answers past [] u h = refl
 begun_answers past (x ∷ xs) u h =
     let e : u + 0 ≡ u = omega arith in
     let a : x.begun ≡ calls_in past u + bit (is_answering x.frame) =
-        subst (λ v. x.begun ≡ calls_in past v + bit (is_answering x.frame)) e (h 0 (omega arith)) in
+    subst (λ v. x.begun ≡ calls_in past v + bit (is_answering x.frame)) e (h 0 (omega arith)) in
     let b : sum_tasks begun_in (u + 1) xs ≡ answers_of past (u + 1) (length xs) + sum_tasks open_in (u + 1) xs =
-        begun_answers past xs (u + 1) (λ i l. subst (λ v. (get_or xs i idle).begun ≡ calls_in past v + bit (is_answering (get_or xs i idle).frame))
-        (shift u i) (h (suc i) (omega (arith, l)))) in
+    begun_answers past xs (u + 1) (λ i l. subst (λ v. (get_or xs i idle).begun ≡ calls_in past v + bit (is_answering (get_or xs i idle).frame))
+    (shift u i) (h (suc i) (omega (arith, l)))) in
     omega (arith, a, b)
 
 -- and are lines
@@ -100,12 +99,12 @@ begun_lines sc (x ∷ xs) u h =
     let e : u + 0 ≡ u = omega arith in
     let a : x.begun ≤ length (lines_of sc u) = subst (λ v. x.begun ≤ length (lines_of sc v)) e (h 0 (omega arith)) in
     let b : sum_tasks begun_in (u + 1) xs ≤ lines_of_tasks sc (u + 1) (length xs) =
-        begun_lines sc xs (u + 1) (λ i l. subst (λ v. (get_or xs i idle).begun ≤ length (lines_of sc v)) (shift u i) (h (suc i) (omega (arith, l)))) in
+    begun_lines sc xs (u + 1) (λ i l. subst (λ v. (get_or xs i idle).begun ≤ length (lines_of sc v)) (shift u i) (h (suc i) (omega (arith, l)))) in
     omega (arith, a, b)
 
 -- what tasks own is what the store has
 owned_seen : (live : List Living) (xs : List Tasked) (t : ℕ)
-    → sum_tasks (λ u (x : Member). references_of x.names + length x.queue) t (map (member_of live) xs) ≡ sum_tasks owned_in t xs
+    → sum_tasks (λ u (x : Member). sum_by (λ (n : store.Named). n.refs) x.names + length x.queue) t (map (member_of live) xs) ≡ sum_tasks owned_in t xs
 owned_seen live [] t = refl
 owned_seen live (x ∷ xs) t =
     let a = names_seen x.names in
@@ -113,9 +112,13 @@ owned_seen live (x ∷ xs) t =
     let c = owned_seen live xs (t + 1) in
     omega (arith, a, b, c)
   where
-    names_seen : (names : List Named) → references_of (map (named_of live) names) ≡ user_references names
+    names_seen : (names : List Named) → sum_by (λ (n : store.Named). n.refs) (map (named_of live) names) ≡ sum_by (λ (n : Named). n.refs) names
     names_seen [] = refl
-    names_seen (n ∷ names) = let r = names_seen names in omega (arith, r)
+    names_seen (n ∷ names) =
+        let r = names_seen names in
+        let a = sum_by-cons (λ (k : store.Named). k.refs) (named_of live n) (map (named_of live) names) in
+        let b = sum_by-cons (λ (k : Named). k.refs) n names in
+        omega (arith, r, a, b)
 
 -- A state.
 
@@ -147,9 +150,9 @@ module _ (sc : Scenario) (m : Machine) (limited : Limited sc) (ties : Ties sc m)
   begun_few : in_all begun_in m ≤ calls_of sc
   begun_few =
       let a : in_all begun_in m ≤ lines_of_tasks sc 1 (length m.tasks) =
-          begun_lines sc m.tasks 1 (λ i l. subst (λ v. (get_or m.tasks i idle).begun ≤ length (lines_of sc v)) (number i)
-          (let b = (ties.tasks (suc i) (in_scenario i l)).begun in
-          let c = few_lines sc (suc i) (phases_in m.past + 1) in omega (arith, b, c))) in
+      begun_lines sc m.tasks 1 (λ i l. subst (λ v. (get_or m.tasks i idle).begun ≤ length (lines_of sc v)) (number i)
+      (let b = (ties.tasks (suc i) (in_scenario i l)).begun in
+      let c = few_lines sc (suc i) (phases_in m.past + 1) in omega (arith, b, c))) in
       let b = all_of_tasks sc 1 (length m.tasks) in
       omega (arith, a, b)
 

@@ -1,6 +1,6 @@
 -- Every event keeps what bounds a run, since it pays and other tasks are as they were.
-use Rattle.std.proofs.Common.{◌≡◌, ◌≢◌, ℕ, ◌+◌, ◌*◌, ◌≤◌, Bool, List, [], ◌∷◌, refl, true, false, ◌&&◌, arith, sym, ap, ◌∙◌, subst, length, map, Some, None, Option}
-use Rattle.std.specs.Prelude.{if◌then◌else◌, nat_lt, is_some}
+use Rattle.std.proofs.Common.{◌≡◌, ◌≢◌, ℕ, ◌+◌, ◌≤◌, Bool, List, [], ◌∷◌, refl, true, false, ◌&&◌, arith, sym, ap, ◌∙◌, subst, length, map, Some, None, Option}
+use Rattle.std.specs.Prelude.{if◌then◌else◌, nat_lt}
 use Rattle.vch_base.specs.declared.flags.Flags.{Flags}
 use Rattle.vch_base.specs.declared.key.Key.{Key}
 use Rattle.vch_base.specs.declared.key.Key.TheVariants as keys
@@ -9,20 +9,19 @@ use Rattle.vch_model.specs.declared.call.Call.{Call}
 use Rattle.vch_model.specs.declared.entry.Entry.TheVariants as entries
 use Rattle.vch_model.specs.declared.lists.Scenario.{Scenario}
 use Rattle.vch_model.specs.Lines.{is_task, phases_in}
-use Rattle.vch_machine.specs.State.{Place, Claim, Frame, Tasked, Machine, idle, tasked, start}
+use Rattle.vch_machine.specs.State.{Frame, Tasked, Machine, idle, tasked, start}
 use Rattle.vch_machine.specs.Events.{event, event_of, phase_event, all_at_rest}
 use Rattle.vch_machine.specs.Frames.{noted}
-use Rattle.vch_machine.specs.Making.{on_claim, on_frame}
+use Rattle.vch_machine.specs.Making.{on_frame}
 use Rattle.vch_machine.specs.Next.{nth_call, next_kind}
 use Rattle.vch_machine.specs.Schedules.{Move, happens}
 use Rattle.vch_machine.proofs.CallerLemmas.{leaves_of, still, still_claim}
 use Rattle.vch_legal.specs.Tie.{Ties}
 use Rattle.vch_legal.proofs.CallerLemmas.{IsAmong, is_among, event_keeps}
-use Rattle.vch_bounds.specs.Rooms.{made_in, given_up_in}
 use Rattle.vch_bounds.specs.Spent.{Spent, takes_of, lets_of, flying_of, takes_in, lets_in, flying_in, begun_in, in_all}
 use Rattle.vch_bounds.specs.Sums.{sum_tasks}
 use Rattle.vch_bounds.proofs.events.Events.{event_pays}
-use Rattle.vch_bounds.proofs.events.Makes.{MayPay}
+use Rattle.vch_bounds.proofs.events.Open.{MayPay}
 use Rattle.vch_bounds.proofs.events.Paid.{Pays}
 use Rattle.vch_bounds.proofs.lists.TaskSums.{sum_changed}
 

@@ -1,5 +1,5 @@
 -- Each answer is of a line of its task, so there are no more answers than lines.
-use Rattle.std.proofs.Common.{◌≡◌, ℕ, zero, suc, ◌+◌, ◌-◌, ◌<◌, ◌≤◌, Bool, cond, List, [], ◌∷◌, refl, true, false, arith, subst, length, Some, None, Option}
+use Rattle.std.proofs.Common.{◌≡◌, ℕ, zero, suc, ◌+◌, ◌-◌, ◌<◌, ◌≤◌, Bool, ap, cond, List, [], ◌∷◌, refl, true, false, arith, subst, length, Some, None, Option}
 use Rattle.std.specs.Prelude.{if◌then◌else◌, ◌==◌, slice_get}
 use Rattle.std.specs.List.{filter}
 use Rattle.vch_model.specs.declared.call.Call.{Call}
@@ -10,9 +10,12 @@ use Rattle.vch_model.specs.declared.lists.Scenario.{Scenario}
 use Rattle.vch_model.specs.Legal.{LegalPast, Answers}
 use Rattle.vch_model.specs.Lines.{lines_from, lines_of, line_at, calls_in, phases_in, current_call, call_of_phase}
 use Rattle.vch_model.specs.After.{store_of}
+use Rattle.vch_model.specs.declared.call.Word.{Word}
+use Rattle.vch_model.specs.declared.entry.Reply.{Reply}
+use Rattle.vch_legal.specs.Facts.{bit}
 use Rattle.vch_script.specs.Places.{IsOfTask, AreOfTasks}
 use Rattle.vch_legal.proofs.CallerLemmas.{lines_of_tasks, all_of_tasks, line_has}
-use Rattle.vch_bounds.specs.Rooms.{answers_in, calls_of}
+use Rattle.vch_bounds.specs.Rooms.{answers_in, calls_of, is_answer}
 
 -- a place that has an item is within the list
 inside : {A : Type 0} (xs : List A) (i : ℕ) (x : A) → slice_get xs i ≡ Some x → i < length xs
@@ -34,6 +37,12 @@ answered sc past t (Some call) e some =
     line_there (phases_in past + 1) (lines_of sc t) (calls_in past t + 1 - 1) (line_at sc t (calls_in past t + 1)) call refl e in
     omega (arith, a)
 
+-- an answer is of a call that is there
+there : (sc : Scenario) (past : List Entry) (t : ℕ) (word : Word) (reply : Reply) (o : Option Call)
+    → Answers sc past (store_of sc past) t o word reply → o ≡ None → ⊥
+there sc past t word reply None a e = a
+there sc past t word reply (Some call) a e = cc
+
 -- the answers of one task are no more than its lines
 pub of_task : (sc : Scenario) (past : List Entry) (u : ℕ) → LegalPast sc past → calls_in past u ≤ length (lines_of sc u)
 of_task sc [] u h = omega arith
@@ -42,15 +51,11 @@ of_task sc (entries.Call t n word reply ∷ past) u h = by_test (t == u) refl (o
     same : (a b : ℕ) → (a == b) ≡ true → a ≡ b
     same a b e = grind arith
 
-    there : (o : Option Call) → Answers sc past (store_of sc past) t o word reply → o ≡ None → ⊥
-    there None a e = a
-    there (Some call) a e = cc
-
     by_test : (b : Bool) → (t == u) ≡ b → calls_in past u ≤ length (lines_of sc u)
         → calls_in past u + (if b then 1 else 0) ≤ length (lines_of sc u)
     by_test true e r =
         subst (λ v. calls_in past v + 1 ≤ length (lines_of sc v)) (same t u e)
-        (answered sc past t (current_call sc past t) refl (there (current_call sc past t) h.1.1))
+        (answered sc past t (current_call sc past t) refl (there sc past t word reply (current_call sc past t) h.1.1))
     by_test false e r = omega (arith, r)
 of_task sc (entries.Made k x ∷ past) u h = of_task sc past u h.0
 of_task sc (entries.Released e ∷ past) u h = of_task sc past u h.0
@@ -98,10 +103,33 @@ one_more past t u (suc n) entry h low high =
     by_test false e g rec = let a = rec e in omega (arith, a, g)
 
 -- an entry that is no answer
-as_before : (past : List Entry) (u n : ℕ) (entry : Entry) → ((v : ℕ) → calls_in (entry ∷ past) v ≡ calls_in past v)
-    → answers_of (entry ∷ past) u n ≡ answers_of past u n
-as_before past u zero entry h = refl
-as_before past u (suc n) entry h = let a = h u in let b = as_before past (u + 1) n entry h in omega (arith, a, b)
+not_fewer : (past : List Entry) (u n : ℕ) (entry : Entry) → is_answer entry ≡ false
+    → ((v : ℕ) → calls_in (entry ∷ past) v ≡ calls_in past v) → answers_in past ≤ answers_of past u n
+    → answers_in (entry ∷ past) ≤ answers_of (entry ∷ past) u n
+not_fewer past u n entry e h l =
+    let a : bit (is_answer entry) ≡ 0 = ap bit e in let b = same u n in omega (arith, a, b, l)
+  where
+    same : (u n : ℕ) → answers_of (entry ∷ past) u n ≡ answers_of past u n
+    same u zero = refl
+    same u (suc n) = let a = h u in let b = same (u + 1) n in omega (arith, a, b)
+
+-- the tasks of all answers are among so many, from a number on
+abbrev AreAmong : ℕ → ℕ → List Entry → Type 0
+AreAmong u n [] = Unit {0}
+AreAmong u n (entries.Call t i word reply ∷ past) = (u ≤ t) × (t < u + n) × AreAmong u n past
+AreAmong u n (entry ∷ past) = AreAmong u n past
+
+all_answers : (past : List Entry) (u n : ℕ) → AreAmong u n past → answers_in past ≤ answers_of past u n
+all_answers [] u n h = omega arith
+all_answers (entries.Call t i word reply ∷ past) u n h =
+    let r = all_answers past u n h.2 in
+    let a = one_more past t u n (entries.Call t i word reply) (λ v. refl) h.0 h.1 in
+    omega (arith, r, a)
+all_answers (entries.Made k x ∷ past) u n h = not_fewer past u n (entries.Made k x) refl (λ v. refl) (all_answers past u n h)
+all_answers (entries.Released e ∷ past) u n h = not_fewer past u n (entries.Released e) refl (λ v. refl) (all_answers past u n h)
+all_answers (entries.Gone t name ∷ past) u n h = not_fewer past u n (entries.Gone t name) refl (λ v. refl) (all_answers past u n h)
+all_answers (entries.Lost t ∷ past) u n h = not_fewer past u n (entries.Lost t) refl (λ v. refl) (all_answers past u n h)
+all_answers (entries.Phase ∷ past) u n h = not_fewer past u n entries.Phase refl (λ v. refl) (all_answers past u n h)
 
 -- no task of an answer has a larger number
 abbrev largest : List Entry → ℕ
@@ -109,22 +137,20 @@ largest [] = 0
 largest (entries.Call t n word reply ∷ past) = t + largest past
 largest (entry ∷ past) = largest past
 
-all_answers : (past : List Entry) (n : ℕ) → largest past < n → answers_in past ≤ answers_of past 0 n
-all_answers [] n l = omega arith
-all_answers (entries.Call t i word reply ∷ past) n l =
-    let r = all_answers past n (omega (arith, l)) in
-    let a = one_more past t 0 n (entries.Call t i word reply) (λ v. refl) (omega arith) (omega (arith, l)) in
-    omega (arith, r, a)
-all_answers (entries.Made k x ∷ past) n l = let r = all_answers past n l in let a = as_before past 0 n (entries.Made k x) (λ u. refl) in omega (arith, r, a)
-all_answers (entries.Released e ∷ past) n l = let r = all_answers past n l in let a = as_before past 0 n (entries.Released e) (λ u. refl) in omega (arith, r, a)
-all_answers (entries.Gone t name ∷ past) n l = let r = all_answers past n l in let a = as_before past 0 n (entries.Gone t name) (λ u. refl) in omega (arith, r, a)
-all_answers (entries.Lost t ∷ past) n l = let r = all_answers past n l in let a = as_before past 0 n (entries.Lost t) (λ u. refl) in omega (arith, r, a)
-all_answers (entries.Phase ∷ past) n l = let r = all_answers past n l in let a = as_before past 0 n entries.Phase (λ u. refl) in omega (arith, r, a)
+up_to_largest : (past : List Entry) (n : ℕ) → largest past < n → AreAmong 0 n past
+up_to_largest [] n l = tt
+up_to_largest (entries.Call t i word reply ∷ past) n l =
+    (omega arith, omega (arith, l), up_to_largest past n (omega (arith, l)))
+up_to_largest (entries.Made k x ∷ past) n l = up_to_largest past n l
+up_to_largest (entries.Released e ∷ past) n l = up_to_largest past n l
+up_to_largest (entries.Gone t name ∷ past) n l = up_to_largest past n l
+up_to_largest (entries.Lost t ∷ past) n l = up_to_largest past n l
+up_to_largest (entries.Phase ∷ past) n l = up_to_largest past n l
 
 -- the answers of a legal history are no more than the scenario's calls
 pub answers_few : (sc : Scenario) (past : List Entry) → LegalPast sc past → answers_in past ≤ calls_of sc
 answers_few sc past h =
-    let a = all_answers past (suc (largest past)) (omega arith) in
+    let a = all_answers past 0 (suc (largest past)) (up_to_largest past (suc (largest past)) (omega arith)) in
     let b = of_tasks sc past 0 (suc (largest past)) h in
     let c : lines_of_tasks sc 0 (suc (largest past)) ≤ calls_of sc = all_of_tasks sc 0 (suc (largest past)) in
     omega (arith, a, b, c)
@@ -158,20 +184,19 @@ task_of_answer sc past t (Some l) h e some =
     same : (a b : ℕ) → (a == b) ≡ true → a ≡ b
     same a b e = grind arith
 
+are_in_range : (sc : Scenario) (past : List Entry) → AreOfTasks (length sc.flags) sc.phases → LegalPast sc past
+    → AreAmong 1 (length sc.flags) past
+are_in_range sc [] h l = tt
+are_in_range sc (entries.Call t i word reply ∷ past) h l =
+    let a = task_of_answer sc past t (line_at sc t (calls_in past t + 1)) h refl
+    (there sc past t word reply (current_call sc past t) l.1.1) in
+    (a.0, omega (arith, a.1), are_in_range sc past h l.0)
+are_in_range sc (entries.Made k x ∷ past) h l = are_in_range sc past h l.0
+are_in_range sc (entries.Released e ∷ past) h l = are_in_range sc past h l.0
+are_in_range sc (entries.Gone t name ∷ past) h l = are_in_range sc past h l.0
+are_in_range sc (entries.Lost t ∷ past) h l = are_in_range sc past h l.0
+are_in_range sc (entries.Phase ∷ past) h l = are_in_range sc past h l.0
+
 pub answers_in_range : (sc : Scenario) (past : List Entry) → AreOfTasks (length sc.flags) sc.phases → LegalPast sc past
     → answers_in past ≤ answers_of past 1 (length sc.flags)
-answers_in_range sc [] h l = omega arith
-answers_in_range sc (entries.Call t i word reply ∷ past) h l =
-    let r = answers_in_range sc past h l.0 in
-    let a = task_of_answer sc past t (line_at sc t (calls_in past t + 1)) h refl (there (current_call sc past t) l.1.1) in
-    let b = one_more past t 1 (length sc.flags) (entries.Call t i word reply) (λ v. refl) a.0 (omega (arith, a.1)) in
-    omega (arith, r, b)
-  where
-    there : (o : Option Call) → Answers sc past (store_of sc past) t o word reply → o ≡ None → ⊥
-    there None a e = a
-    there (Some call) a e = cc
-answers_in_range sc (entries.Made k x ∷ past) h l = let r = answers_in_range sc past h l.0 in let a = as_before past 1 (length sc.flags) (entries.Made k x) (λ u. refl) in omega (arith, r, a)
-answers_in_range sc (entries.Released e ∷ past) h l = let r = answers_in_range sc past h l.0 in let a = as_before past 1 (length sc.flags) (entries.Released e) (λ u. refl) in omega (arith, r, a)
-answers_in_range sc (entries.Gone t name ∷ past) h l = let r = answers_in_range sc past h l.0 in let a = as_before past 1 (length sc.flags) (entries.Gone t name) (λ u. refl) in omega (arith, r, a)
-answers_in_range sc (entries.Lost t ∷ past) h l = let r = answers_in_range sc past h l.0 in let a = as_before past 1 (length sc.flags) (entries.Lost t) (λ u. refl) in omega (arith, r, a)
-answers_in_range sc (entries.Phase ∷ past) h l = let r = answers_in_range sc past h l.0 in let a = as_before past 1 (length sc.flags) entries.Phase (λ u. refl) in omega (arith, r, a)
+answers_in_range sc past h l = all_answers past 1 (length sc.flags) (are_in_range sc past h l)
