@@ -31,8 +31,9 @@ open_in t x = bit (is_answering x.frame)
 abbrev pub owned_in : ℕ → Tasked → ℕ
 owned_in t x = sum_by (λ (n : Named). n.refs) x.names + length x.queue
 
--- the calls begun, the receipts in flight, the tally, the entries of values, the handles ever used of a key, what tasks own, and
--- the next name of a task
+-- the calls begun, the receipts in flight, the tally, the values made, the handles ever used of a key, what tasks own, and the
+-- next name of a task. A call takes 1,280 references at most, four for each sixteen bytes of its array. It claims as many
+-- handles, and twelve more: of two vouchers when it is answered, and of the one in the name or the message that it may give
 pub record Bounded (sc : Scenario) (m : Machine) : Type 0 where
   pub begun : in_all begun_in m ≤ calls_of sc
   pub flying : in_all flying_in m ≤ length sc.flags

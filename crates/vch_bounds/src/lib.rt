@@ -8,13 +8,8 @@
 //! since it takes from what its own task may still do and leaves other tasks as they were. All else follows from legal
 //! histories: an answer gives one name or one message at most, and a value is released once.
 //!
-//! A core pushes an entry with no test, and asks for memory only where a value is made:
-//!
-//! ```rust
-//! let mut history = History::with_room(alloc, 2 * calls + phases)?;  // at the start
-//! history.reserve(2)?;                                               // before each Make
-//! history.push(entry);                                               // has room: `room_is_enough`
-//! ```
+//! What a core takes from `room_is_enough`: it reserves two places a call and one a phase at its start, and two more before
+//! each Make. Then each entry has room when it comes, and memory is asked for only where a value is made.
 #![tactic(auto)]
 
 ghost use Rattle.std.specs.Prelude.{◌≡◌, ◌≤◌, ◌+◌, ◌*◌, ℕ, Bool, false, List, ◌∷◌, length, Some};
@@ -22,6 +17,7 @@ ghost use Rattle.vch_model.specs.declared.entry.Entry.{Entry};
 ghost use Rattle.vch_model.specs.declared.lists.Scenario.{Scenario};
 ghost use Rattle.vch_model.specs.After.{store_of};
 ghost use Rattle.vch_model.specs.Legal.{LegalPast, CanFollow};
+ghost use Rattle.vch_model.specs.Scenarios.{IsLimited};
 ghost use Rattle.vch_machine.specs.State.{Machine, start};
 ghost use Rattle.vch_machine.specs.Events.{event, phase_event};
 ghost use Rattle.vch_machine.specs.Schedules.{Move, run_from_start};
@@ -56,7 +52,12 @@ pub fn events_spend()
     ensures of_phase { (sc : Scenario) (m n : Machine) → Spent sc m → phase_event sc m ≡ Some n → Spent sc n }
 {}
 
-/// A law: what is spent bounds a state, by the calls that were begun, and in numbers.
+/// A law: a scenario within the limits of a text is limited.
+pub fn texts_are_limited()
+    ensures { (sc : Scenario) → IsLimited sc → Limited sc }
+{}
+
+/// A law: what is spent bounds a state that stands, by the calls that were begun, and in numbers.
 #[tactic(auto, using(crate::proofs::runs::Runs::bounded, crate::proofs::runs::Runs::in_numbers))]
 pub fn states_are_bounded()
     ensures bounded { (sc : Scenario) (m : Machine) → Limited sc → Ties sc m → Spent sc m → Bounded sc m }

@@ -119,11 +119,13 @@ counted sc past h =
       released = all_released sc past h;
       given_up =
           let a : things_in (store_of sc past) ≤ sum_tasks (λ u (x : Member). owned x) 1 (store_of sc past).tasks =
-          no_more (λ u (x : Member). length x.names + length x.queue) (λ u x. owned x) (λ u x. let b = few_names x.names in omega (arith, b)) (store_of sc past).tasks 1 in
+          no_more (λ u (x : Member). length x.names + length x.queue) (λ u x. owned x)
+          (λ u x. let b = few_names x.names in omega (arith, b)) (store_of sc past).tasks 1 in
           omega (arith, all, a);
       references =
           let a : references_in (store_of sc past) ≤ sum_tasks (λ u (x : Member). owned x) 1 (store_of sc past).tasks =
-          no_more (λ u (x : Member). sum_by (λ (n : Named). n.refs) x.names + length x.queue) (λ u x. owned x) (λ u x. let b = few_references x.names in omega (arith, b)) (store_of sc past).tasks 1 in
+          no_more (λ u (x : Member). sum_by (λ (n : Named). n.refs) x.names + length x.queue) (λ u x. owned x)
+          (λ u x. let b = few_references x.names in omega (arith, b)) (store_of sc past).tasks 1 in
           omega (arith, all, a);
       nexts = λ t.
           let given = owned_few names_given 0 given_counts sc past h in

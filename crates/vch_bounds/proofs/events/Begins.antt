@@ -36,11 +36,13 @@ still_among t m x among = (among.0, subst (λ i. t ≤ i) (sym (as_long m.tasks 
 queued_frame : (t to : ℕ) (m : Machine) (q : Message) → (tasked (enqueued m to q) t).frame ≡ (tasked m t).frame
 queued_frame t to m q = by_task (cases_eq t to)
   where
-    own : (xs : List Tasked) (u : ℕ) (x : Tasked) → x.frame ≡ (at_task xs u idle).frame → (at_task (set_task xs u x) u idle).frame ≡ (at_task xs u idle).frame
+    own : (xs : List Tasked) (u : ℕ) (x : Tasked) → x.frame ≡ (at_task xs u idle).frame
+        → (at_task (set_task xs u x) u idle).frame ≡ (at_task xs u idle).frame
     own xs zero x e = refl
     own xs (suc i) x e = from_place xs i e
       where
-        from_place : (xs : List Tasked) (i : ℕ) → x.frame ≡ (get_or xs i idle).frame → (get_or (set xs i x) i idle).frame ≡ (get_or xs i idle).frame
+        from_place : (xs : List Tasked) (i : ℕ) → x.frame ≡ (get_or xs i idle).frame
+            → (get_or (set xs i x) i idle).frame ≡ (get_or xs i idle).frame
         from_place [] i e = refl
         from_place (y ∷ xs) zero e = e
         from_place (y ∷ xs) (suc i) e = from_place xs i e
@@ -48,7 +50,8 @@ queued_frame t to m q = by_task (cases_eq t to)
     by_task : (t ≡ to) ⊎ (t ≢ to) → (tasked (enqueued m to q) t).frame ≡ (tasked m t).frame
     by_task (inl e) = subst (λ u. (tasked (enqueued m to q) u).frame ≡ (tasked m u).frame) (sym e)
         (own m.tasks to (record (tasked m to) { queue = (tasked m to).queue ++ q ∷ [] }) refl)
-    by_task (inr e) = ap (λ (x : Tasked). x.frame) (other_items m.tasks to t (record (tasked m to) { queue = (tasked m to).queue ++ q ∷ [] }) idle e)
+    by_task (inr e) = ap (λ (x : Tasked). x.frame)
+        (other_items m.tasks to t (record (tasked m to) { queue = (tasked m to).queue ++ q ∷ [] }) idle e)
 
 -- a task that begins its next call
 record BeginsCall (sc : Scenario) (t : ℕ) (m : Machine) (call : Call) : Type 0 where

@@ -14,11 +14,13 @@ none_made : (n : ℕ) → n ≡ n + 0
 none_made n = omega arith
 
 -- the frame has as much left
-still_costs : (version : ℕ) (call : Option Call) (f : Frame) (c : Option Claim) → Costs version call (Some f) (Some (record f { claim = c })) 0 0 0
+still_costs : (version : ℕ) (call : Option Call) (f : Frame) (c : Option Claim)
+    → Costs version call (Some f) (Some (record f { claim = c })) 0 0 0
 still_costs version call f c = record { takes = omega arith; lets = omega arith }
 
 -- a handle less is to be let go, and claimed at most
-let_go_costs : (version : ℕ) (call : Option Call) (f : Frame) (q : Place) (rest : List Place) (c : Option Claim) (n : ℕ) → f.lets ≡ q ∷ rest → n ≤ 1
+let_go_costs : (version : ℕ) (call : Option Call) (f : Frame) (q : Place) (rest : List Place) (c : Option Claim) (n : ℕ)
+    → f.lets ≡ q ∷ rest → n ≤ 1
     → Costs version call (Some f) (Some (record f { lets = rest; claim = c })) 0 n 0
 let_go_costs version call f q rest c n e l =
     let a : length f.lets ≡ suc (length rest) = ap length e in

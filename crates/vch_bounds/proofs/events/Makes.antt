@@ -72,7 +72,8 @@ record_asks version bytes place ks r rest e =
     by_test true h = same_record version bytes place ks (omega (arith, long)) (h refl)
     by_test false h = next_record bytes place (place + (16 + length r.content)) ks long
 
-create_asks : (version : ℕ) (live : List Living) (names : List Named) (t : ℕ) (v : Handles) (bytes : List ℕ) (place : ℕ) (ks : List Key) (first : First) (a : Asked)
+create_asks : (version : ℕ) (live : List Living) (names : List Named) (t : ℕ) (v : Handles) (bytes : List ℕ)
+    (place : ℕ) (ks : List Key) (first : First) (a : Asked)
     → first_of (drop place bytes) ≡ first → asked_first version live names t ks v first ≡ Some a
     → create_left bytes (moved_place_first version ks place first) (moved_keys_first version ks first) + 4 ≤ create_left bytes place ks
 create_asks version live names t v bytes place ks (One r rest) a e h = record_asks version bytes place ks r rest e
@@ -165,7 +166,8 @@ received_pays sc t m mid f call p c receipt fewer tasks counts made used =
         let b = claims_task (with_frame mid t (Some (record f { receipt = Some p }))) (race_claim p) t in
         record {
           begun = ap (λ (x : Tasked). x.begun) b ∙ a.begun;
-          frame = ap (λ (x : Tasked). x.frame) b ∙ ap (λ (o : Option Frame). (on_task (race_claim p) (record (tasked m t) { frame = o })).frame) a.frame;
+          frame = ap (λ (x : Tasked). x.frame) b
+              ∙ ap (λ (o : Option Frame). (on_task (race_claim p) (record (tasked m t) { frame = o })).frame) a.frame;
         }
 
 value_pays : (sc : Scenario) (t : ℕ) (m : Machine) (f : Frame) (call : Call) (k : Key) (x : Value) (found : Option ℕ)

@@ -157,7 +157,8 @@ closed_costs version call f g r c d h =
 -- an event that changes the frame, answers the call or not, and makes nothing
 pub quiet_pays : (sc : Scenario) (t : ℕ) (m n : Machine) (f : Frame) (g : Option Frame) (c d : ℕ) → (tasked m t).frame ≡ Some f
     → Own t m n g → Counts m n 0 c d → Costs sc.version (nth_call sc t (tasked m t).begun) (Some f) g 0 c d
-    → made_in n.past ≡ made_in m.past → ((k : Key) → (of_key k n.pools).used ≤ (of_key k m.pools).used + 0) → flying_of g ≡ flying_of (Some f) → Pays sc t m n
+    → made_in n.past ≡ made_in m.past → ((k : Key) → (of_key k n.pools).used ≤ (of_key k m.pools).used + 0)
+    → flying_of g ≡ flying_of (Some f) → Pays sc t m n
 quiet_pays sc t m n f g c d frame own counts costs made pools flying =
     frame_pays sc t m n (Some f) g 0 c d frame own counts costs (same _ _ _ _ made flying) (λ k. used _ _ _ _ (pools k) made)
   where

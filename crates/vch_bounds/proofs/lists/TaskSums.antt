@@ -101,7 +101,8 @@ module _ {A : Type 0} (f : ℕ → A → ℕ) where
   -- one task counts for no more than all
   pub one_of_all : (xs : List A) (t : ℕ) (d : A) → f t d ≡ 0 → f t (at_task xs t d) ≤ sum_tasks f 1 xs
   one_of_all xs zero d e = omega (arith, e)
-  one_of_all xs (suc i) d e = subst (λ k. f k (get_or xs i d) ≤ sum_tasks f 1 xs) (number i) (from_place xs 1 i (subst (λ k. f k d ≡ 0) (sym (number i)) e))
+  one_of_all xs (suc i) d e = subst (λ k. f k (get_or xs i d) ≤ sum_tasks f 1 xs) (number i)
+      (from_place xs 1 i (subst (λ k. f k d ≡ 0) (sym (number i)) e))
     where
       number : (i : ℕ) → 1 + i ≡ suc i
       number i = omega arith
@@ -114,6 +115,7 @@ module _ {A : Type 0} (f : ℕ → A → ℕ) where
           subst (λ k. f k (get_or xs i d) ≤ f u x + sum_tasks f (u + 1) xs) (sym (one_behind u i)) (omega (arith, r))
 
 -- a sum that is at most another, task by task
-pub no_more : {A : Type 0} (f g : ℕ → A → ℕ) → ((t : ℕ) (x : A) → f t x ≤ g t x) → (xs : List A) (t : ℕ) → sum_tasks f t xs ≤ sum_tasks g t xs
+pub no_more : {A : Type 0} (f g : ℕ → A → ℕ) → ((t : ℕ) (x : A) → f t x ≤ g t x) → (xs : List A) (t : ℕ)
+    → sum_tasks f t xs ≤ sum_tasks g t xs
 no_more f g h [] t = omega arith
 no_more f g h (x ∷ xs) t = let a = h t x in let b = no_more f g h xs (t + 1) in omega (arith, a, b)

@@ -14,6 +14,8 @@ use Rattle.vch_model.specs.declared.call.Call.{Call}
 use Rattle.vch_model.specs.declared.call.Line.{Line}
 use Rattle.vch_machine.specs.State.{Living, Named, Frame, Tasked, Machine, idle, tasked, named_of, message_of, member_of, start}
 use Rattle.vch_machine.specs.Next.{nth_call}
+use Rattle.vch_model.specs.Scenarios.{IsLimited}
+use Rattle.vch_script.proofs.CallerLemmas.{of_tasks}
 use Rattle.vch_machine.specs.Schedules.{Move, happens, run, run_from_start}
 use Rattle.vch_legal.specs.Facts.{bit}
 use Rattle.vch_legal.specs.Tie.{Ties, is_answering}
@@ -26,6 +28,15 @@ use Rattle.vch_bounds.specs.Sums.{sum_tasks}
 use Rattle.vch_bounds.proofs.counts.AnsweredLines.{answers_of, answers_in_range}
 use Rattle.vch_bounds.proofs.counts.Rooms.{counted, within}
 use Rattle.vch_bounds.proofs.runs.Steps.{start_spent, move_spent}
+
+-- a scenario within the limits of a text
+pub limited_of : (sc : Scenario) → IsLimited sc → Limited sc
+limited_of sc limited = record {
+  tasks = limited.tasks;
+  phases = limited.phases;
+  calls = let a = limited.calls in omega (arith, a);
+  lines = of_tasks sc.version (length sc.flags) sc.phases limited.lines;
+}
 
 -- A run.
 
@@ -104,7 +115,8 @@ begun_lines sc (x ∷ xs) u h =
 
 -- what tasks own is what the store has
 owned_seen : (live : List Living) (xs : List Tasked) (t : ℕ)
-    → sum_tasks (λ u (x : Member). sum_by (λ (n : store.Named). n.refs) x.names + length x.queue) t (map (member_of live) xs) ≡ sum_tasks owned_in t xs
+    → sum_tasks (λ u (x : Member). sum_by (λ (n : store.Named). n.refs) x.names + length x.queue) t (map (member_of live) xs)
+    ≡ sum_tasks owned_in t xs
 owned_seen live [] t = refl
 owned_seen live (x ∷ xs) t =
     let a = names_seen x.names in
