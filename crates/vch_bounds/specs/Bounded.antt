@@ -27,11 +27,15 @@ pub record Limited (sc : Scenario) : Type 0 where
 abbrev pub open_in : ℕ → Tasked → ℕ
 open_in t x = bit (is_answering x.frame)
 
--- the user references of a task's names, and its messages
+-- a task's names and messages
+abbrev pub things_in : ℕ → Tasked → ℕ
+things_in t x = length x.names + length x.queue
+
+-- the user references of its names, and its messages
 abbrev pub owned_in : ℕ → Tasked → ℕ
 owned_in t x = sum_by (λ (n : Named). n.refs) x.names + length x.queue
 
--- the calls begun, the receipts in flight, the tally, the values made, the handles ever used of a key, what tasks own, and the
+-- the calls begun, the receipts in flight, the tally, the values made, the handles ever used of a key, what tasks have, and the
 -- next name of a task. A call takes 1,280 references at most, four for each sixteen bytes of its array. It claims as many
 -- handles, and twelve more: of two vouchers when it is answered, and of the one in the name or the message that it may give
 pub record Bounded (sc : Scenario) (m : Machine) : Type 0 where
@@ -42,6 +46,7 @@ pub record Bounded (sc : Scenario) (m : Machine) : Type 0 where
   pub asks : m.tally.asks ≤ m.tally.refers
   pub made : made_in m.past ≤ m.tally.refers + in_all flying_in m
   pub used : (k : Key) → (of_key k m.pools).used ≤ m.tally.refers + in_all flying_in m + 1
+  pub things : in_all things_in m + in_all open_in m ≤ in_all begun_in m
   pub owned : in_all owned_in m + in_all open_in m ≤ in_all begun_in m
   pub nexts : (t : ℕ) → (tasked m t).next + in_all open_in m ≤ in_all begun_in m + 1
 
@@ -53,6 +58,7 @@ pub record InNumbers (m : Machine) : Type 0 where
   pub asks : m.tally.asks ≤ 1342177280
   pub made : made_in m.past ≤ 1342177280
   pub used : (k : Key) → (of_key k m.pools).used ≤ 1342177281
+  pub things : in_all things_in m ≤ 1048576
   pub owned : in_all owned_in m ≤ 1048576
   pub nexts : (t : ℕ) → (tasked m t).next ≤ 1048577
   pub past : length m.past < 2 ^ 32

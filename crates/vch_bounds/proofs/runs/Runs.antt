@@ -20,8 +20,8 @@ use Rattle.vch_machine.specs.Schedules.{Move, happens, run, run_from_start}
 use Rattle.vch_legal.specs.Facts.{bit}
 use Rattle.vch_legal.specs.Tie.{Ties, is_answering}
 use Rattle.vch_legal.proofs.CallerLemmas.{lines_of_tasks, all_of_tasks, member_seen, start_stands, happens_stands, reached_stands}
-use Rattle.vch_bounds.specs.Bounded.{Limited, Bounded, InNumbers, open_in, owned_in}
-use Rattle.vch_bounds.specs.Owned.{references_in}
+use Rattle.vch_bounds.specs.Bounded.{Limited, Bounded, InNumbers, open_in, things_in, owned_in}
+use Rattle.vch_bounds.specs.Owned as owned
 use Rattle.vch_bounds.specs.Rooms.{calls_of, answers_in, Counted}
 use Rattle.vch_bounds.specs.Spent.{Spent, takes_of, flying_of, takes_in, flying_in, begun_in, in_all}
 use Rattle.vch_bounds.specs.Sums.{sum_tasks}
@@ -113,7 +113,16 @@ begun_lines sc (x ∷ xs) u h =
     begun_lines sc xs (u + 1) (λ i l. subst (λ v. (get_or xs i idle).begun ≤ length (lines_of sc v)) (shift u i) (h (suc i) (omega (arith, l)))) in
     omega (arith, a, b)
 
--- what tasks own is what the store has
+-- what tasks have is what the store has
+things_seen : (live : List Living) (xs : List Tasked) (t : ℕ)
+    → sum_tasks (λ u (x : Member). length x.names + length x.queue) t (map (member_of live) xs) ≡ sum_tasks things_in t xs
+things_seen live [] t = refl
+things_seen live (x ∷ xs) t =
+    let a = length-map x.names (named_of live) in
+    let b = length-map x.queue (message_of live) in
+    let c = things_seen live xs (t + 1) in
+    omega (arith, a, b, c)
+
 owned_seen : (live : List Living) (xs : List Tasked) (t : ℕ)
     → sum_tasks (λ u (x : Member). sum_by (λ (n : store.Named). n.refs) x.names + length x.queue) t (map (member_of live) xs)
     ≡ sum_tasks owned_in t xs
@@ -178,8 +187,11 @@ module _ (sc : Scenario) (m : Machine) (limited : Limited sc) (ties : Ties sc m)
       let c = all_begun in
       omega (arith, a, b, c)
 
-  owned_same : references_in (store_of sc m.past) ≡ in_all owned_in m
-  owned_same = ap references_in (sym ties.same_store) ∙ owned_seen m.live m.tasks 1
+  things_same : owned.things_in (store_of sc m.past) ≡ in_all things_in m
+  things_same = ap owned.things_in (sym ties.same_store) ∙ things_seen m.live m.tasks 1
+
+  owned_same : owned.references_in (store_of sc m.past) ≡ in_all owned_in m
+  owned_same = ap owned.references_in (sym ties.same_store) ∙ owned_seen m.live m.tasks 1
 
   next_same : (t : ℕ) → (member (store_of sc m.past) t).next ≡ (tasked m t).next
   next_same t = ap (λ (s : Store). (member s t).next) (sym ties.same_store) ∙ ap (λ (x : Member). x.next) (member_seen m t)
@@ -193,6 +205,7 @@ module _ (sc : Scenario) (m : Machine) (limited : Limited sc) (ties : Ties sc m)
     asks = let a = ties.fits.counted in omega (arith, a);
     made = spent.made;
     used = λ k. let a = spent.used k in omega (arith, a, spent.made);
+    things = let a = all_answers in let b = counts.given_up in let c = things_same in omega (arith, a, b, c);
     owned = let a = all_answers in let b = counts.references in let c = owned_same in omega (arith, a, b, c);
     nexts = λ t. let a = all_answers in let b = counts.nexts t in let c = next_same t in omega (arith, a, b, c);
   }
@@ -207,6 +220,7 @@ module _ (sc : Scenario) (m : Machine) (limited : Limited sc) (ties : Ties sc m)
         asks = omega (arith, b.asks, b.refers, b.begun, limited.calls);
         made = omega (arith, b.made, b.refers, b.begun, limited.calls);
         used = λ k. let a = b.used k in omega (arith, a, b.refers, b.begun, limited.calls);
+        things = omega (arith, b.things, b.begun, limited.calls);
         owned = omega (arith, b.owned, b.begun, limited.calls);
         nexts = λ t. let a = b.nexts t in omega (arith, a, b.begun, limited.calls);
         past =
