@@ -1,5 +1,5 @@
 -- The word before the first space.
-use Rattle.std.proofs.Common.{◌≡◌, ◌≢◌, ◌+◌, ◌<◌, ◌≤◌, ℕ, List, [], ◌∷◌, ◌++◌, length, get_or, take, drop, refl, sym, ap, ◌∙◌, arith, true, false, eqb, append_assoc, append-nil}
+use Rattle.std.proofs.Common.{◌≡◌, ◌≢◌, ◌+◌, ◌<◌, ◌≤◌, ℕ, zero, suc, List, [], ◌∷◌, ◌++◌, length, get_or, take, drop, refl, sym, ap, ◌∙◌, arith, true, false, eqb, append_assoc, append-nil, add-one, subst}
 use Rattle.std.proofs.lemmas.Grind.{common_steps}
 use Rattle.std.proofs.lemmas.List.{at_drop_more, at_drop_all, take_more, take_all}
 use Rattle.vch_text.specs.Words.{front_of, in_front}
@@ -40,3 +40,11 @@ front_end s bs i le h =
 
 pub parts_are : (s : ℕ) (bs : List ℕ) (p q x y : List ℕ) → front_of s bs ≡ (x, y) → p ≡ x → q ≡ y → front_of s bs ≡ (p, q)
 parts_are s bs p q x y h a b = h ∙ ap (λ (l : List ℕ). (l, y)) (sym a) ∙ ap (λ (l : List ℕ). (p, l)) (sym b)
+
+-- no separator stands before a place
+pub fronts_to : (s : ℕ) (bs : List ℕ) (i : ℕ) → i ≤ length bs → ((k : ℕ) → k < i → eqb (get_or bs k 0) s ≡ true → ⊥) → front_of s bs ≡ behind (take i bs) (front_of s (drop i bs))
+fronts_to s bs zero le none = refl
+fronts_to s bs (suc i) le none =
+    let ne : get_or bs i 0 ≢ s = λ e. none i (omega arith) (grind (arith, common_steps)) in
+    subst (λ j. front_of s bs ≡ behind (take j bs) (front_of s (drop j bs))) (add-one i)
+    (front_more s bs i (omega arith) ne (fronts_to s bs i (omega arith) (λ k l. none k (omega arith))))

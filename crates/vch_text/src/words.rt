@@ -2,6 +2,8 @@ ghost use Rattle.std.specs.Prelude.{◌≡◌, ℕ, List, Option};
 ghost use Rattle.vch_text.specs.Reading.{Finds};
 ghost use Rattle.vch_text.specs.Words as words;
 
+use memchr::memchr;
+
 /// Whether the word is this text, byte for byte.
 #[tactic(auto, unfolding(crate::specs::Words::is_word))]
 pub fn is_word(word: &[u8], text: &[u8]) -> bool
@@ -17,12 +19,10 @@ pub fn is_word(word: &[u8], text: &[u8]) -> bool
 pub fn front(separator: u8, bytes: &[u8]) -> (&[u8], &[u8])
     ensures { words.front_of separator bytes.now ≡ (result.0.now, result.1.now) }
 {
-    for (i, byte) in bytes.iter().enumerate() {
-        if *byte == separator {
-            return bytes.split_at(i);
-        }
+    match memchr(separator, bytes) {
+        Some(at) => bytes.split_at(at),
+        None => bytes.split_at(bytes.len()),
     }
-    bytes.split_at(bytes.len())
 }
 
 /// The next word of a line, and what is left behind it. There is none exactly where what is left
