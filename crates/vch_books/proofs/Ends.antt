@@ -175,7 +175,7 @@ all_are h (d ∷ tasks) =
     ∙ (ap (λ vs. vs ++ map (numbered_voucher h) (all_numbers tasks)) (sym (map-append (numbered_voucher h) xs ys))
     ∙ sym (map-append (numbered_voucher h) (xs ++ ys) (all_numbers tasks)))))
 
-joined : {A : Type 0} (P : A → Type 0) (xs ys : List A) → AllByRecursion P xs → AllByRecursion P ys → AllByRecursion P (xs ++ ys)
+pub joined : {A : Type 0} (P : A → Type 0) (xs ys : List A) → AllByRecursion P xs → AllByRecursion P ys → AllByRecursion P (xs ++ ys)
 joined P [] ys p q = q
 joined P (x ∷ xs) ys p q = (p.0, joined P xs ys p.1 q)
 
@@ -195,7 +195,7 @@ desk_all h live d s = joined (Stands h live) (flat_map (λ (n : Named). n.vouche
         by None s r = r
         by (Some v) s r = (s, r)
 
-all_stand : (h : List Entry) (live : List Alive) (tasks : List Desk) → AllByRecursion (DeskStands h live) tasks → AllByRecursion (Stands h live) (all_numbers tasks)
+pub all_stand : (h : List Entry) (live : List Alive) (tasks : List Desk) → AllByRecursion (DeskStands h live) tasks → AllByRecursion (Stands h live) (all_numbers tasks)
 all_stand h live [] s = tt
 all_stand h live (d ∷ tasks) s = joined (Stands h live) (desk_numbers d) (all_numbers tasks) (desk_all h live d s.0) (all_stand h live tasks s.1)
 

@@ -95,13 +95,13 @@ pub not_both : {b : Bool} → b ≡ true → b ≡ false → ⊥
 not_both e f = let k : true ≡ false = sym e ∙ f in cc
 
 -- the number that is made next
-made_entry : (a : Audit) (k : ℕ) (x : Value) → slice_get a.history a.taken ≡ Some (entries.Made k x) → entry_at a.history (a.taken + 1) ≡ Some (entries.Made k x)
+pub made_entry : (a : Audit) (k : ℕ) (x : Value) → slice_get a.history a.taken ≡ Some (entries.Made k x) → entry_at a.history (a.taken + 1) ≡ Some (entries.Made k x)
 made_entry a k x e = ap (λ i. slice_get a.history i) (back a.taken) ∙ e
   where
     back : (n : ℕ) → n + 1 - 1 ≡ n
     back n = omega arith
 
-made_value : (h : List Entry) (n k : ℕ) (x : Value) → entry_at h (n + 1) ≡ Some (entries.Made k x) → numbered_value h (n + 1) ≡ x
+pub made_value : (h : List Entry) (n k : ℕ) (x : Value) → entry_at h (n + 1) ≡ Some (entries.Made k x) → numbered_value h (n + 1) ≡ x
 unfolding numbered_value
 made_value h n k x e = rw (some n, e) refl
   where

@@ -1,5 +1,5 @@
 -- A name at a place of a list.
-use Rattle.std.proofs.Common.{take, drop, set, get_or, ◌≡◌, ◌+◌, ◌-◌, ◌≤◌, ◌<◌, ℕ, suc, List, ◌∷◌, ◌++◌, length, refl, sym, ap, ◌∙◌, arith, true, false, ◌==◌, nat_lt}
+use Rattle.std.proofs.Common.{take, drop, set, get_or, ◌≡◌, ◌+◌, ◌-◌, ◌≤◌, ◌<◌, ℕ, suc, List, ◌∷◌, ◌++◌, length, refl, sym, ap, ◌∙◌, arith, true, false, ◌==◌, nat_lt, Some, None}
 use Rattle.std.proofs.lemmas.Grind.{common_steps}
 use Rattle.std.proofs.Math.Seq.{drop-cons, set_split}
 use Rattle.vch_books.specs.Desks as desks
@@ -44,3 +44,14 @@ without_at_place names i name n inside is named rest =
     let less : desks.without_name (drop i names) name ≡ drop (suc i) names =
     ap (λ l. desks.without_name l name) (from_place names i n inside is) ∙ rw (own n.name name named) refl in
     sym (ap (λ l. take i names ++ l) less) ∙ rest
+
+-- what goes of it
+pub gone_at_place : (names : List Named) (i name : ℕ) (n : Named) → i < length names → n ≡ get_or names i n → n.name ≡ name → n.refs ≤ 1 → desks.gone_with (drop i names) name ≡ Some n.voucher
+gone_at_place names i name n inside is named few =
+    let last : nat_lt 1 n.refs ≡ false = grind (arith, common_steps) in
+    ap (λ l. desks.gone_with l name) (from_place names i n inside is) ∙ rw (own n.name name named, last) refl
+
+pub stays_at_place : (names : List Named) (i name : ℕ) (n : Named) → i < length names → n ≡ get_or names i n → n.name ≡ name → 1 < n.refs → desks.gone_with (drop i names) name ≡ None
+stays_at_place names i name n inside is named many =
+    let several : nat_lt 1 n.refs ≡ true = grind (arith, common_steps) in
+    ap (λ l. desks.gone_with l name) (from_place names i n inside is) ∙ rw (own n.name name named, several) refl

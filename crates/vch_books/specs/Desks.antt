@@ -44,6 +44,13 @@ one_less (n ∷ names) name =
     if n.name == name then (if nat_lt 1 n.refs then record n { refs = n.refs - 1 } ∷ names else names)
     else n ∷ one_less names name
 
+-- the voucher whose name goes with its last reference
+abbrev pub gone_with : List Named → ℕ → Option Numbers
+gone_with [] name = None
+gone_with (n ∷ names) name =
+    if n.name == name then (if nat_lt 1 n.refs then None else Some n.voucher)
+    else gone_with names name
+
 abbrev pub without_name : List Named → ℕ → List Named
 without_name [] name = []
 without_name (n ∷ names) name = if n.name == name then names else n ∷ without_name names name
@@ -68,7 +75,13 @@ with_name d v (Some name) = record d { names = one_more d.names name }
 abbrev pub given : Desk → Numbers → Desk
 given d v = with_name d v (name_with d.names v)
 
+-- the voucher of the first message, where it has one
+abbrev pub first_voucher : List Message → Option Numbers
+first_voucher [] = None
+first_voucher (q ∷ queue) = q.voucher
+
 -- a name at a place has a reference less, or is gone
-abbrev pub IsLess : List Named → ℕ → List Named → Type 0
-IsLess old i new = (n : Named) × (n ≡ slice_index_or old i n)
-    × (((1 < n.refs) × (new ≡ slice_set old i (record n { refs = n.refs - 1 }))) ⊎ ((n.refs ≤ 1) × (new ≡ take i old ++ drop (suc i) old)))
+abbrev pub IsLess : List Named → ℕ → List Named → Option Numbers → Type 0
+IsLess old i new gone = (n : Named) × (n ≡ slice_index_or old i n)
+    × (((1 < n.refs) × (new ≡ slice_set old i (record n { refs = n.refs - 1 })) × (gone ≡ None))
+    ⊎ ((n.refs ≤ 1) × (new ≡ take i old ++ drop (suc i) old) × (gone ≡ Some n.voucher)))

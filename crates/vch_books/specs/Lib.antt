@@ -4,4 +4,6 @@ pub mod Audits
 pub mod Kept
 pub mod Turns
 pub mod Going
+pub mod Counts
 pub mod Holding
+pub mod Living

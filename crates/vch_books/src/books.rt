@@ -15,15 +15,11 @@ ghost use Rattle.vch_books.specs.Audits.{IsSound, IsGood, IsGoodOption, IsLeft, 
 ghost use Rattle.vch_books.specs.Numbered.{StandsAt, numbered_value, option_voucher, option_message};
 
 use crate::Numbers;
-use crate::different::{different, gather};
-use crate::holding::{first_unheld, is_held};
-use crate::live::{find, is_live, value_at};
-use crate::member::Member;
+use crate::holding::first_unheld;
+use crate::live::Live;
+use crate::made::value_at;
 use crate::rows::Message;
-use crate::start::nobody;
-use crate::tasks::{
-    begun_at, first_at, has_name_at, lowest_at, messages_at, name_for_at, voucher_at,
-};
+use crate::tasks::Tasks;
 use crate::turns::{Uncalled, all_begun, call_now, first_short};
 use std::alloc::Global;
 use std::marker::Model;
@@ -45,10 +41,9 @@ fn limit_of(scenario: &Scenario, task: u32) -> usize
 #[derive(Drop)]
 pub struct Books<'a> {
     pub(crate) scenario: &'a Scenario,
-    pub(crate) history: &'a History,
     pub(crate) taken: usize,
-    pub(crate) tasks: Vec<Member>,
-    pub(crate) live: Vec<u32>,
+    pub(crate) tasks: Tasks,
+    pub(crate) live: Live<'a>,
     pub(crate) phases: u32,
     pub(crate) places: Places,
     pub(crate) sums: Sums,
@@ -60,9 +55,9 @@ impl<'a> Model for Books<'a> {
 
     ghost Value = { Audit };
 
-    ghost view = { λ b. record { scenario = b.scenario.now; history = b.history.now.entries; taken = b.taken } };
+    ghost view = { λ b. record { scenario = b.scenario.now; history = b.live.history; taken = b.taken } };
 
-    ghost invariant = { λ b. Keeps (record { scenario = b.scenario.now; history = b.history.now.entries; taken = b.taken }) (record { tasks = b.tasks.items; live = b.live.items; phases = b.phases; places = b.places; sums = b.sums }) };
+    ghost invariant = { λ b. Keeps (record { scenario = b.scenario.now; history = b.live.history; taken = b.taken }) (record { tasks = b.tasks; live = b.live.numbers; phases = b.phases; places = b.places; sums = b.sums }) };
 }
 
 impl<'a> Books<'a> {
@@ -78,13 +73,12 @@ impl<'a> Books<'a> {
     {
         let places = places_of(alloc, scenario)?;
         let sums = Sums::start(alloc, scenario)?;
-        let tasks = nobody(alloc, scenario.flags.len())?;
+        let tasks = Tasks::nobody(alloc, scenario.flags.len())?;
         Ok(Books {
             scenario,
-            history,
             taken: 0,
             tasks,
-            live: Vec::new(alloc),
+            live: Live::new(alloc, history),
             phases: 0,
             places,
             sums,
@@ -116,8 +110,9 @@ impl<'a> Books<'a> {
     pub fn next(&self) -> Option<&'a Entry>
         ensures { option_copied result ≡ slice_get self.now.history self.now.taken }
     {
-        if self.taken < self.history.len() {
-            return Some(self.history.at(self.taken));
+        let history = self.live.history();
+        if self.taken < history.len() {
+            return Some(history.at(self.taken));
         }
         None
     }
@@ -127,7 +122,7 @@ impl<'a> Books<'a> {
         ensures voucher { option_voucher self.now.history result ≡ named_voucher (store_at self.now) task name }
         ensures good { IsGoodOption self.now result }
     {
-        voucher_at(self.tasks.as_slice(), task, name)
+        self.tasks.voucher_at(task, name)
     }
 
     /// The first message of a task's queue, or nothing where it has none.
@@ -135,7 +130,7 @@ impl<'a> Books<'a> {
         ensures message { option_message self.now.history result ≡ first_of (member (store_at self.now) task).queue }
         ensures good { IfSome result (λ q. IsGoodOption self.now q.voucher) }
     {
-        first_at(self.tasks.as_slice(), task)
+        self.tasks.first_at(task)
     }
 
     /// Whether the queue of a task has as many messages as it may have.
@@ -143,28 +138,28 @@ impl<'a> Books<'a> {
         requires { is_task self.now.scenario task ≡ true }
         ensures { result ≡ store.is_full self.now.scenario (store_at self.now) task }
     {
-        messages_at(self.tasks.as_slice(), task) >= limit_of(self.scenario, task)
+        self.tasks.messages_at(task) >= limit_of(self.scenario, task)
     }
 
     /// The lowest name of a task, or nothing where it has none.
     pub fn lowest_name(&self, task: u32) -> Option<u32>
         ensures { result ≡ store.lowest (member (store_at self.now) task).names }
     {
-        lowest_at(self.tasks.as_slice(), task)
+        self.tasks.lowest_at(task)
     }
 
     /// Whether a task has a name.
     pub fn has_name(&self, task: u32) -> bool
         ensures { result ≡ not (is_empty (member (store_at self.now) task).names) }
     {
-        has_name_at(self.tasks.as_slice(), task)
+        self.tasks.has_name_at(task)
     }
 
     /// Whether a task has a message.
     pub fn has_message(&self, task: u32) -> bool
         ensures { result ≡ not (is_empty (member (store_at self.now) task).queue) }
     {
-        messages_at(self.tasks.as_slice(), task) > 0
+        self.tasks.messages_at(task) > 0
     }
 
     /// The name that a voucher has at a task, or gets where it is given to it; also where it is given with the task's first
@@ -175,7 +170,7 @@ impl<'a> Books<'a> {
         ensures given { result ≡ gives_name (store_at self.now) task (meant self.now voucher.now) }
         ensures received { (queue : List store.Message) → result ≡ gives_name (taken_first (store_at self.now) task queue) task (meant self.now voucher.now) }
     {
-        name_for_at(self.tasks.as_slice(), task, voucher)
+        self.tasks.name_for_at(task, voucher)
     }
 
     /// The number of a value at a key, or nothing where it is not live there; 0 of Default.
@@ -187,42 +182,42 @@ impl<'a> Books<'a> {
         if value.is_default() {
             return Some(0);
         }
-        find(self.history, self.live.as_slice(), key.number(), value)
+        self.live.find(key.number(), value)
     }
 
     /// The value of a number, or nothing where that is Default.
     pub fn value(&self, number: u32) -> Option<&'a Value>
         ensures { MatchOption result (numbered_value self.now.history number ≡ values.Default) (λ x. numbered_value self.now.history number ≡ x.now) }
     {
-        value_at(self.history, number)
+        value_at(self.live.history(), number)
     }
 
     /// Whether the value of a Made entry is live and not held.
     pub fn is_unheld(&self, made: u32) -> bool
         ensures { IsTrue result ↔ IsUnheld (store_at self.now) (find_made (store_at self.now).live made) }
     {
-        is_live(self.live.as_slice(), made) && !is_held(self.history, self.tasks.as_slice(), made)
+        self.live.has(made) && !self.tasks.hold(made)
     }
 
     /// Whether each live value is held.
     pub fn all_held(&self) -> bool
         ensures { result ≡ all_held (store_at self.now) }
     {
-        first_unheld(self.history, self.tasks.as_slice(), self.live.as_slice()).is_none()
+        self.tasks.values() == self.live.len()
     }
 
     /// The lowest Made entry of a live value that is not held, or nothing where each is.
     pub fn first_left(&self) -> Option<u32>
         ensures { MatchOption result (all_held (store_at self.now) ≡ true) (λ e. IsLeft (store_at self.now) e) }
     {
-        first_unheld(self.history, self.tasks.as_slice(), self.live.as_slice())
+        first_unheld(&self.live, &self.tasks)
     }
 
     /// How many calls of a task were taken.
     pub fn calls(&self, task: u32) -> u32
         ensures { result ≡ calls_in (past_at self.now) task }
     {
-        begun_at(self.tasks.as_slice(), task)
+        self.tasks.begun_at(task)
     }
 
     /// How many ends of phases were taken.
@@ -237,7 +232,7 @@ impl<'a> Books<'a> {
         ensures call { option_copied result ≡ current_call self.now.scenario (past_at self.now) task }
         ensures task { IfSome result (λ _. is_task self.now.scenario task ≡ true) }
     {
-        let begun = begun_at(self.tasks.as_slice(), task);
+        let begun = self.tasks.begun_at(task);
         call_now(self.scenario, &self.places, task, begun, self.phases)
     }
 
@@ -245,27 +240,21 @@ impl<'a> Books<'a> {
     pub fn phase_is_done(&self) -> bool
         ensures { IsTrue result ↔ EachTask (length self.now.scenario.flags) (λ t. calls_in (past_at self.now) t ≡ lines_until self.now.scenario (phases_in (past_at self.now) + 1) t) }
     {
-        all_begun(
-            self.scenario,
-            &self.places,
-            self.tasks.as_slice(),
-            self.phases,
-        )
+        all_begun(self.scenario, &self.places, &self.tasks, self.phases)
     }
 
     /// The first line without its Call, of the lowest task that has one, or nothing where each line has its Call.
     pub fn first_uncalled(&self) -> Option<Uncalled>
         ensures { MatchOption result (EachTask (length self.now.scenario.flags) (λ t. calls_in (past_at self.now) t ≡ length (lines_of self.now.scenario t))) (λ u. IsUncalled self.now u.task u.number) }
     {
-        first_short(&self.places, self.tasks.as_slice())
+        first_short(&self.places, &self.tasks)
     }
 
     /// How many different vouchers names and messages have.
-    pub fn vouchers(&self, alloc: Global) -> Result<u64, NoMemory>
-        ensures { IfOk result (λ n. n ≡ different (all_vouchers (store_at self.now).tasks)) }
+    pub fn vouchers(&self) -> u64
+        ensures { result ≡ different (all_vouchers (store_at self.now).tasks) }
     {
-        let all = gather(alloc, self.tasks.as_slice())?;
-        different(alloc, all.as_slice())
+        self.tasks.vouchers() as u64
     }
 
     /// How many values are live, with Default.

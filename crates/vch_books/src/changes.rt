@@ -13,9 +13,7 @@ ghost use Rattle.vch_books.specs.Numbered.{StandsAt, message_of, numbered_value}
 
 use crate::Numbers;
 use crate::books::Books;
-use crate::live::remove;
 use crate::rows::Message;
-use crate::tasks::{append_at, begin_at, give_at, give_up_at, let_go_at, take_first_at};
 use vch_base::{NoMemory, Value};
 
 impl<'a> Books<'a> {
@@ -24,7 +22,7 @@ impl<'a> Books<'a> {
         requires next { Leaves self task (store_at self) }
         ensures { result ≡ advanced self.entry }
     {
-        begin_at(&mut self.tasks, task);
+        self.tasks.begin_at(task);
         self.taken += 1;
         self
     }
@@ -44,7 +42,7 @@ impl<'a> Books<'a> {
         ensures { IfOk result (λ made. made ≡ advanced self.entry) }
     {
         self.sums.counted(number, adding, n)?;
-        begin_at(&mut self.tasks, task);
+        self.tasks.begin_at(task);
         self.taken += 1;
         Ok(self)
     }
@@ -63,7 +61,7 @@ impl<'a> Books<'a> {
         ensures { IfOk result (λ made. made ≡ advanced self.entry) }
     {
         self.sums.charged(number, task, n)?;
-        begin_at(&mut self.tasks, task);
+        self.tasks.begin_at(task);
         self.taken += 1;
         Ok(self)
     }
@@ -74,8 +72,8 @@ impl<'a> Books<'a> {
         requires next { Leaves self task (store.given (store_at self) task (meant self voucher)) }
         ensures { IfOk result (λ made. made ≡ advanced self.entry) }
     {
-        give_at(&mut self.tasks, task, voucher)?;
-        begin_at(&mut self.tasks, task);
+        self.tasks = self.tasks.give_at(task, voucher)?;
+        self.tasks.begin_at(task);
         self.taken += 1;
         Ok(self)
     }
@@ -85,8 +83,8 @@ impl<'a> Books<'a> {
         requires next { Leaves self task (after.let_go (store_at self) task name) }
         ensures { result ≡ advanced self.entry }
     {
-        let_go_at(&mut self.tasks, task, name);
-        begin_at(&mut self.tasks, task);
+        self.tasks.let_go_at(task, name);
+        self.tasks.begin_at(task);
         self.taken += 1;
         self
     }
@@ -98,8 +96,8 @@ impl<'a> Books<'a> {
         requires next { Leaves self task (after.appended (store_at self) to (message_of self.history message)) }
         ensures { IfOk result (λ made. made ≡ advanced self.entry) }
     {
-        append_at(&mut self.tasks, to, message)?;
-        begin_at(&mut self.tasks, task);
+        self.tasks = self.tasks.append_at(to, message)?;
+        self.tasks.begin_at(task);
         self.taken += 1;
         Ok(self)
     }
@@ -117,9 +115,9 @@ impl<'a> Books<'a> {
         requires next { Leaves self task (after.let_go (after.appended (store_at self) to (message_of self.history message)) task name) }
         ensures { IfOk result (λ made. made ≡ advanced self.entry) }
     {
-        append_at(&mut self.tasks, to, message)?;
-        let_go_at(&mut self.tasks, task, name);
-        begin_at(&mut self.tasks, task);
+        self.tasks = self.tasks.append_at(to, message)?;
+        self.tasks.let_go_at(task, name);
+        self.tasks.begin_at(task);
         self.taken += 1;
         Ok(self)
     }
@@ -129,8 +127,8 @@ impl<'a> Books<'a> {
         requires next { Leaves self task (after.taken_first (store_at self) task (rest_of (member (store_at self) task).queue)) }
         ensures { result ≡ advanced self.entry }
     {
-        take_first_at(&mut self.tasks, task);
-        begin_at(&mut self.tasks, task);
+        self.tasks.take_first_at(task);
+        self.tasks.begin_at(task);
         self.taken += 1;
         self
     }
@@ -141,9 +139,9 @@ impl<'a> Books<'a> {
         requires next { Leaves self task (store.given (after.taken_first (store_at self) task (rest_of (member (store_at self) task).queue)) task (meant self voucher)) }
         ensures { IfOk result (λ made. made ≡ advanced self.entry) }
     {
-        take_first_at(&mut self.tasks, task);
-        give_at(&mut self.tasks, task, voucher)?;
-        begin_at(&mut self.tasks, task);
+        self.tasks.take_first_at(task);
+        self.tasks = self.tasks.give_at(task, voucher)?;
+        self.tasks.begin_at(task);
         self.taken += 1;
         Ok(self)
     }
@@ -153,7 +151,7 @@ impl<'a> Books<'a> {
         requires next { IsNext self (entries.Gone task name) }
         ensures { result ≡ advanced self.entry }
     {
-        give_up_at(&mut self.tasks, task, name);
+        self.tasks.give_up_at(task, name);
         self.taken += 1;
         self
     }
@@ -163,7 +161,7 @@ impl<'a> Books<'a> {
         requires next { IsNext self (entries.Lost task) }
         ensures { result ≡ advanced self.entry }
     {
-        take_first_at(&mut self.tasks, task);
+        self.tasks.take_first_at(task);
         self.taken += 1;
         self
     }
@@ -186,7 +184,7 @@ impl<'a> Books<'a> {
         requires next { IsNext self (entries.Released made) }
         ensures { IfOk result (λ made. made ≡ advanced self.entry) }
     {
-        remove(&mut self.live, made);
+        self.live.remove(made);
         self.sums.released(made)?;
         self.taken += 1;
         Ok(self)

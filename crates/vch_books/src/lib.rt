@@ -1,4 +1,4 @@
-//! The store of a history, taken entry by entry, on plain lists.
+//! The store of a history, taken entry by entry, on lists with indexes and counts beside them.
 //!
 //! Whoever checks a history that someone else made goes through it with [`Books`]: asks what the sequential store has, decides
 //! whether the next entry may come, and takes it by the one call that changes the store so. The definitions of a reply look at the
@@ -9,7 +9,8 @@
 //!
 //! **The invariant** (`Keeps`): what was taken is legal, and the lists stand for the sequential store after it. Each number of a
 //! voucher is that of a live value of its key; no two live values are equal; numbers of live values rise; each task has begun as many
-//! calls as the history has of it; the sums are those of the history.
+//! calls as the history has of it; the sums are those of the history. Indexes and counts are in the invariants of the types that keep them:
+//! an index of the contents of the live values (`Live`), and the counts of who holds what (`Tasks`, by `Holders`).
 //!
 //! ```rust
 //! let books = Books::open(alloc, &scenario, &history)?;  // nothing was taken
@@ -22,14 +23,17 @@
 
 mod books;
 mod changes;
-mod different;
+mod content;
+mod counter;
+mod holders;
 mod holding;
 mod live;
+mod made;
 mod member;
 mod names;
 mod numbers;
+mod queue;
 mod rows;
-mod start;
 mod tasks;
 mod turns;
 

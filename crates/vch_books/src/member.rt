@@ -1,18 +1,16 @@
-ghost use Rattle.std.specs.Prelude.{◌≡◌, ◌+◌, ◌<◌, ◌++◌, ◌∷◌, [], length, not, IfOk, OnOk};
+ghost use Rattle.std.specs.Prelude.{◌≡◌, ◌+◌, ◌<◌, ◌++◌, ◌∷◌, [], length, not, is_some, IfOk, OnOk};
 ghost use Rattle.vch_model.specs.Store.{is_empty};
 ghost use Rattle.vch_books.specs.Audits.{first_of, rest_of};
-ghost use Rattle.vch_books.specs.Holding.{desk_has, desk_numbers};
 ghost use Rattle.vch_books.specs.Desks as desks;
-ghost use Rattle.vch_books.specs.Desks.{empty_desk, numbers_at, name_with, given};
+ghost use Rattle.vch_books.specs.Desks.{empty_desk, numbers_at, name_with, gone_with, first_voucher, given};
 
 use crate::Numbers;
-use crate::different::{gather_names, gather_queue};
-use crate::holding::{names_hold, queue_holds};
 use crate::names::{lowest, name_of, one_less, one_more, voucher_of, without};
+use crate::queue::Queue;
 use crate::rows::{Message, Named};
 use std::alloc::Global;
 use std::marker::Model;
-use vch_base::{Key, NoMemory};
+use vch_base::NoMemory;
 
 /// What a task has: its names in the order in which they were given, the next one, its messages, the first one first, and how
 /// many calls of it were taken.
@@ -20,7 +18,7 @@ use vch_base::{Key, NoMemory};
 pub struct Member {
     names: Vec<Named>,
     next: u32,
-    queue: Vec<Message>,
+    queue: Queue,
     begun: u32,
 }
 
@@ -29,7 +27,7 @@ impl Model for Member {
 
     ghost Value = { Desk };
 
-    ghost view = { λ m. record { names = m.names.items; next = m.next; queue = m.queue.items; begun = m.begun } };
+    ghost view = { λ m. record { names = m.names.items; next = m.next; queue = m.queue; begun = m.begun } };
 }
 
 impl Member {
@@ -40,7 +38,7 @@ impl Member {
         Member {
             names: Vec::new(alloc),
             next: 1,
-            queue: Vec::new(alloc),
+            queue: Queue::new(alloc),
             begun: 0,
         }
     }
@@ -83,22 +81,6 @@ impl Member {
         self.queue.len() > 0
     }
 
-    /// Whether it has a voucher with a number at a key.
-    pub fn holds(&self, key: Key, number: u32) -> bool
-        ensures { result ≡ desk_has key number self.now }
-    {
-        names_hold(self.names.as_slice(), key, number)
-            || queue_holds(self.queue.as_slice(), key, number)
-    }
-
-    /// Appends all vouchers that it has.
-    pub fn gather(&self, all: &mut Vec<Numbers>) -> Result<(), NoMemory>
-        ensures { OnOk result (all.new.items ≡ all.old.items ++ desk_numbers self.now) }
-    {
-        gather_names(self.names.as_slice(), all)?;
-        gather_queue(self.queue.as_slice(), all)
-    }
-
     /// How many messages it has.
     pub fn messages(&self) -> usize
         ensures { result ≡ length self.now.queue }
@@ -110,7 +92,7 @@ impl Member {
     pub fn first(&self) -> Option<Message>
         ensures { result ≡ first_of self.now.queue }
     {
-        self.queue.first().copied()
+        self.queue.first()
     }
 
     /// How many of its calls were taken.
@@ -128,12 +110,14 @@ impl Member {
         self.begun += 1;
     }
 
-    /// A voucher is given to it.
-    pub fn give(&mut self, voucher: Numbers) -> Result<(), NoMemory>
-        ensures { OnOk result (self.new ≡ given self.old voucher) }
+    /// A voucher is given to it. Returns whether the voucher had no name before.
+    pub fn give(&mut self, voucher: Numbers) -> Result<bool, NoMemory>
+        ensures given { OnOk result (self.new ≡ given self.old voucher) }
+        ensures fresh { IfOk result (λ fresh. is_some (name_with self.old.names voucher) ≡ not fresh) }
     {
         if let Some(name) = name_of(self.names.as_slice(), &voucher) {
-            return one_more(&mut self.names, name);
+            one_more(&mut self.names, name)?;
+            return Ok(false);
         }
         let name = self.next;
         let Some(next) = name.checked_add(1) else {
@@ -145,37 +129,37 @@ impl Member {
             refs: 1,
         })?;
         self.next = next;
-        Ok(())
+        Ok(true)
     }
 
-    /// A name loses a user reference, and goes with the last.
-    pub fn let_go(&mut self, name: u32)
-        ensures { self.new ≡ record self.old { names = desks.one_less self.old.names name } }
+    /// A name loses a user reference, and goes with the last. Returns the voucher of a name that went.
+    pub fn let_go(&mut self, name: u32) -> Option<Numbers>
+        ensures less { self.new ≡ record self.old { names = desks.one_less self.old.names name } }
+        ensures gone { result ≡ gone_with self.old.names name }
     {
-        one_less(&mut self.names, name);
+        one_less(&mut self.names, name)
     }
 
-    /// A name goes.
-    pub fn give_up(&mut self, name: u32)
-        ensures { self.new ≡ record self.old { names = desks.without_name self.old.names name } }
+    /// A name goes, where it is there. Returns its voucher.
+    pub fn give_up(&mut self, name: u32) -> Option<Numbers>
+        ensures less { self.new ≡ record self.old { names = desks.without_name self.old.names name } }
+        ensures gone { result ≡ numbers_at self.old.names name }
     {
-        without(&mut self.names, name);
+        without(&mut self.names, name)
     }
 
     /// One message more at the end.
     pub fn append(&mut self, message: Message) -> Result<(), NoMemory>
         ensures { OnOk result (self.new ≡ record self.old { queue = self.old.queue ++ message ∷ [] }) }
     {
-        self.queue.push(message)?;
-        Ok(())
+        self.queue.append(message)
     }
 
-    /// The first message goes, where there is one.
-    pub fn take_first(&mut self)
-        ensures { self.new ≡ record self.old { queue = rest_of self.old.queue } }
+    /// The first message goes, where there is one. Returns its voucher, where it has one.
+    pub fn take_first(&mut self) -> Option<Numbers>
+        ensures less { self.new ≡ record self.old { queue = rest_of self.old.queue } }
+        ensures gone { result ≡ first_voucher self.old.queue }
     {
-        if self.queue.len() > 0 {
-            self.queue.remove(0);
-        }
+        self.queue.take_first()
     }
 }

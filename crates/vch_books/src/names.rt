@@ -1,13 +1,13 @@
 ghost use Rattle.std.specs.Prelude.{◌≡◌, ◌<◌, ◌+◌, IfOk, OnOk, length};
 ghost use Rattle.vch_books.specs.Desks as desks;
-ghost use Rattle.vch_books.specs.Desks.{IsLess, numbers_at, name_with};
+ghost use Rattle.vch_books.specs.Desks.{IsLess, numbers_at, name_with, gone_with};
 
 use crate::Numbers;
 use crate::rows::Named;
 use vch_base::NoMemory;
 
 /// The number after a number. One that does not fit counts things that no memory has room for, so it is out of memory.
-fn after(n: u64) -> Result<u64, NoMemory>
+pub fn after(n: u64) -> Result<u64, NoMemory>
     ensures { IfOk result (λ next. next ≡ n + 1) }
 {
     match n.checked_add(1) {
@@ -77,38 +77,40 @@ pub fn one_more(names: &mut Vec<Named>, name: u32) -> Result<(), NoMemory>
     Ok(())
 }
 
-/// One reference less to the name at a place, which is gone with the last.
-fn lessen(names: &mut Vec<Named>, i: usize)
+/// One reference less to the name at a place, which is gone with the last. Returns the voucher of a name that went.
+fn lessen(names: &mut Vec<Named>, i: usize) -> Option<Numbers>
     requires { i < length names.old.items }
-    ensures { IsLess names.old.items i names.new.items }
+    ensures { IsLess names.old.items i names.new.items result }
 {
     if names[i].refs > 1 {
         names[i].refs -= 1;
-        return;
+        return None;
     }
-    names.remove(i);
+    Some(names.remove(i).voucher)
 }
 
-/// One reference less to a name, which is gone with the last.
-pub fn one_less(names: &mut Vec<Named>, name: u32)
-    ensures { names.new.items ≡ desks.one_less names.old.items name }
+/// One reference less to a name, which is gone with the last. Returns the voucher of a name that went.
+pub fn one_less(names: &mut Vec<Named>, name: u32) -> Option<Numbers>
+    ensures less { names.new.items ≡ desks.one_less names.old.items name }
+    ensures gone { result ≡ gone_with names.old.items name }
 {
     for i in 0..names.len() {
         if names[i].name == name {
-            lessen(names, i);
-            return;
+            return lessen(names, i);
         }
     }
+    None
 }
 
-/// A name goes, where it is there.
-pub fn without(names: &mut Vec<Named>, name: u32)
-    ensures { names.new.items ≡ desks.without_name names.old.items name }
+/// A name goes, where it is there. Returns its voucher.
+pub fn without(names: &mut Vec<Named>, name: u32) -> Option<Numbers>
+    ensures less { names.new.items ≡ desks.without_name names.old.items name }
+    ensures gone { result ≡ numbers_at names.old.items name }
 {
     for i in 0..names.len() {
         if names[i].name == name {
-            names.remove(i);
-            return;
+            return Some(names.remove(i).voucher);
         }
     }
+    None
 }

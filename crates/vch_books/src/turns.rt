@@ -8,8 +8,7 @@ ghost use Rattle.std.specs.Option.{option_copied};
 ghost use Rattle.vch_books.specs.Turns.{call_in_phase, IsShort};
 ghost use Rattle.vch_script.specs.Places.{ArePlaces, spots_of};
 
-use crate::member::Member;
-use crate::tasks::begun_at;
+use crate::tasks::Tasks;
 use vch_model::{Call, Scenario};
 use vch_script::Places;
 
@@ -42,14 +41,14 @@ pub fn call_now<'a>(
 }
 
 /// Whether each task has begun each of its calls up to the phase behind so many others.
-pub fn all_begun(scenario: &Scenario, places: &Places, tasks: &[Member], phases: u32) -> bool
+pub fn all_begun(scenario: &Scenario, places: &Places, tasks: &Tasks, phases: u32) -> bool
     requires places { ArePlaces scenario.now places.now }
     requires few { length tasks.now ≤ 64 }
     ensures { IsTrue result ↔ EachTask (length tasks.now) (λ t. lines_until scenario.now (phases + 1) t ≤ (at_task tasks.now t empty_desk).begun) }
 {
     for done in 0..tasks.len() {
         let task = done as u32 + 1;
-        if places.has_call(scenario, task, begun_at(tasks, task), phases) {
+        if places.has_call(scenario, task, tasks.begun_at(task), phases) {
             return false;
         }
     }
@@ -57,14 +56,14 @@ pub fn all_begun(scenario: &Scenario, places: &Places, tasks: &[Member], phases:
 }
 
 /// The first line that a task has not begun, of the lowest such task.
-pub fn first_short(places: &Places, tasks: &[Member]) -> Option<Uncalled>
+pub fn first_short(places: &Places, tasks: &Tasks) -> Option<Uncalled>
     requires few { length tasks.now ≤ 64 }
     requires small { AllByRecursion (λ (d : Desk). d.begun ≤ 16384) tasks.now }
     ensures { MatchOption result (EachTask (length tasks.now) (λ t. length (spots_of places.now t) ≤ (at_task tasks.now t empty_desk).begun)) (λ u. IsShort places.now tasks.now u.task u.number) }
 {
     for done in 0..tasks.len() {
         let task = done as u32 + 1;
-        let begun = tasks[done].begun();
+        let begun = tasks.begun_at(task);
         if (begun as usize) < places.lines(task) {
             return Some(Uncalled {
                 task,

@@ -16,36 +16,35 @@ use vch_model::Scenario;
 use vch_report::Report;
 
 /// The verdict on a report of a whole history.
-fn on_sums(books: &Books, alloc: Global, report: &Report) -> Result<Verdict, NoMemory>
+fn on_sums(books: &Books, report: &Report) -> Verdict
     requires version { IsOfVersion books.now.scenario report.now }
     requires all { books.now ≡ whole_audit books.now.scenario (history_of report.now) }
     requires ended { Ended books.now.scenario (past_at books.now) }
-    ensures { IfOk result (λ verdict. IsVerdict books.now.scenario report.now verdict) }
+    ensures { IsVerdict books.now.scenario report.now result }
 {
     books.know();
     if let Some(task) = first_other(books, &report.totals) {
-        return Ok(Verdict::Not {
+        return Verdict::Not {
             flaw: Flaw::Total { task },
-        });
+        };
     }
-    let vouchers = books.vouchers(alloc)?;
-    if vouchers == report.vouchers && books.values() == report.values {
-        Ok(Verdict::Whole)
+    if books.vouchers() == report.vouchers && books.values() == report.values {
+        Verdict::Whole
     } else {
-        Ok(Verdict::Not { flaw: Flaw::Count })
+        Verdict::Not { flaw: Flaw::Count }
     }
 }
 
 /// The verdict on a report of a legal history.
-fn on_legal(books: &Books, alloc: Global, report: &Report) -> Result<Verdict, NoMemory>
+fn on_legal(books: &Books, report: &Report) -> Verdict
     requires version { IsOfVersion books.now.scenario report.now }
     requires all { books.now ≡ whole_audit books.now.scenario (history_of report.now) }
-    ensures { IfOk result (λ verdict. IsVerdict books.now.scenario report.now verdict) }
+    ensures { IsVerdict books.now.scenario report.now result }
 {
     books.know();
     match ending(books) {
-        Some(flaw) => Ok(Verdict::Not { flaw }),
-        None => on_sums(books, alloc, report),
+        Some(flaw) => Verdict::Not { flaw },
+        None => on_sums(books, report),
     }
 }
 
@@ -65,7 +64,7 @@ pub fn certify(alloc: Global, scenario: &Scenario, report: &Report) -> Result<Ve
         });
     }
     match judge_history(alloc, scenario, &report.history)? {
-        Judged::Legal { books } => on_legal(&books, alloc, report),
+        Judged::Legal { books } => Ok(on_legal(&books, report)),
         Judged::Not { number } => Ok(Verdict::Not {
             flaw: Flaw::Entry { number },
         }),

@@ -123,16 +123,10 @@ fn own_assertions(books: &Books, task: u32, reply: &Reply) -> Option<Effect>
 }
 
 /// What a right reply to a live does.
-fn own_live(
-    books: &Books,
-    alloc: Global,
-    task: u32,
-    reply: &Reply,
-) -> Result<Option<Effect>, NoMemory>
-    ensures { IfOk result (λ effect. IsOwn books.now task calls.Live reply.now effect) }
+fn own_live(books: &Books, task: u32, reply: &Reply) -> Option<Effect>
+    ensures { IsOwn books.now task calls.Live reply.now result }
 {
-    let right = tells_live(books, alloc, task, reply)?;
-    Ok(where_right(right, Effect::Stay))
+    where_right(tells_live(books, task, reply), Effect::Stay)
 }
 
 /// What a reply does that is the store's own; nothing where it isn't. An exit has none.
@@ -162,7 +156,7 @@ pub fn own(
         Call::Charge { name, n } => Ok(own_charge(books, task, *name, *n, reply)),
         Call::Ledger => Ok(own_ledger(books, task, reply)),
         Call::Assertions => Ok(own_assertions(books, task, reply)),
-        Call::Live => own_live(books, alloc, task, reply),
+        Call::Live => Ok(own_live(books, task, reply)),
         Call::Exit => Ok(None),
     }
 }

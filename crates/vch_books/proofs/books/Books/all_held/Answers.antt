@@ -1,18 +1,16 @@
-use Rattle.std.proofs.Common.{◌≡◌, ap, sym, subst}
+use Rattle.std.proofs.Common.{◌∙◌, ap, subst, length}
 use Rattle.vch_books.specs.Audits.{Audit}
 use Rattle.vch_books.specs.Kept.{Lists, Keeps}
-use Rattle.std.specs.Prelude.{List}
-use Rattle.vch_model.specs.declared.entry.Entry.{Entry}
-use Rattle.vch_books.specs.Holding.{first_unheld}
-use Rattle.vch_books.proofs.Held.{none_unheld}
+use Rattle.std.specs.Prelude.{ℕ, ◌==◌, nat_eq}
+use Rattle.vch_books.specs.Counts.{different_by}
+use Rattle.vch_books.specs.Holding.{held_numbers}
+use Rattle.vch_books.proofs.AllHeld.{as_many}
 use Rattle.vch_books.proofs.books.Books.all_held.Goals as goal
 
 pub returns : goal.returns
 returns c =
     let s = c.self.inside in
     let a = c.args.self.now in
-    let l : Lists = record { tasks = s.tasks.items; live = s.live.items; phases = s.phases; places = s.places; sums = s.sums } in
+    let l : Lists = record { tasks = s.tasks; live = s.live.numbers; phases = s.phases; places = s.places; sums = s.sums } in
     let k : Keeps a l = subst (λ (x : Audit). Keeps x l) c.self.view_is c.self.invariant in
-    let own = ap (λ (x : Audit). x.history) c.self.view_is in
-    let e : first_unheld a.history l.tasks l.live ≡ c.first_unheld.result = sym (rw (c.first_unheld.ensures, c.as_slice.ensures.value, c.as_slice-2.ensures.value) (ap (λ (h : List Entry). first_unheld h s.tasks.items s.live.items) own)) in
-    none_unheld a l c.first_unheld.result c.is_none.result k e c.is_none.ensures
+    ap (λ (n : ℕ). n == c.len.result) c.values.ensures ∙ (ap (λ (n : ℕ). different_by nat_eq (held_numbers l.tasks) == n) c.len.ensures.len ∙ as_many a l k)

@@ -19,30 +19,30 @@ if_some (Some b) p T e f = f b.now (sym e)
 pub call_now-requires-clause-few : goal.call_now-requires-clause-few
 call_now-requires-clause-few c =
     let s = c.self.inside in
-    let l : Lists = record { tasks = s.tasks.items; live = s.live.items; phases = s.phases; places = s.places; sums = s.sums } in
+    let l : Lists = record { tasks = s.tasks; live = s.live.numbers; phases = s.phases; places = s.places; sums = s.sums } in
     let k : Keeps c.args.self.now l = subst (λ (a : Audit). Keeps a l) c.self.view_is c.self.invariant in
-    let few : (at_task s.tasks.items c.args.task empty_desk).begun ≤ 16384 = few_kept c.args.self.now l k c.args.task in
-    let is : c.begun_at-begun.result ≡ (at_task s.tasks.items c.args.task empty_desk).begun = rw (c.begun_at-begun.ensures, c.as_slice.ensures.value) refl in
+    let few : (at_task s.tasks c.args.task empty_desk).begun ≤ 16384 = few_kept c.args.self.now l k c.args.task in
+    let is : c.begun_at-begun.result ≡ (at_task s.tasks c.args.task empty_desk).begun = rw c.begun_at-begun.ensures refl in
     omega (arith, few, is)
 
 pub returns-clause-call : goal.returns-clause-call
 returns-clause-call c =
     let s = c.self.inside in
-    let l : Lists = record { tasks = s.tasks.items; live = s.live.items; phases = s.phases; places = s.places; sums = s.sums } in
+    let l : Lists = record { tasks = s.tasks; live = s.live.numbers; phases = s.phases; places = s.places; sums = s.sums } in
     let k : Keeps c.args.self.now l = subst (λ (a : Audit). Keeps a l) c.self.view_is c.self.invariant in
     let own = ap (λ (a : Audit). a.scenario) c.self.view_is in
-    let is : c.begun_at-begun.result ≡ (at_task s.tasks.items c.args.task empty_desk).begun = rw (c.begun_at-begun.ensures, c.as_slice.ensures.value) refl in
+    let is : c.begun_at-begun.result ≡ (at_task s.tasks c.args.task empty_desk).begun = rw c.begun_at-begun.ensures refl in
     c.call_now.ensures ∙ (ap (λ n. call_in_phase s.scenario.now c.args.task n s.phases) is
-    ∙ (ap (λ sc. call_in_phase sc c.args.task (at_task s.tasks.items c.args.task empty_desk).begun s.phases) own ∙ current_kept c.args.self.now l k c.args.task))
+    ∙ (ap (λ sc. call_in_phase sc c.args.task (at_task s.tasks c.args.task empty_desk).begun s.phases) own ∙ current_kept c.args.self.now l k c.args.task))
 
 pub returns-clause-task : goal.returns-clause-task
 returns-clause-task c =
     let s = c.self.inside in
-    let l : Lists = record { tasks = s.tasks.items; live = s.live.items; phases = s.phases; places = s.places; sums = s.sums } in
+    let l : Lists = record { tasks = s.tasks; live = s.live.numbers; phases = s.phases; places = s.places; sums = s.sums } in
     let k : Keeps c.args.self.now l = subst (λ (a : Audit). Keeps a l) c.self.view_is c.self.invariant in
     let own = ap (λ (a : Audit). a.scenario) c.self.view_is in
-    let is : c.begun_at-begun.result ≡ (at_task s.tasks.items c.args.task empty_desk).begun = rw (c.begun_at-begun.ensures, c.as_slice.ensures.value) refl in
-    if_some c.call_now.result (call_in_phase c.args.self.now.scenario c.args.task (at_task s.tasks.items c.args.task empty_desk).begun s.phases) (is_task c.args.self.now.scenario c.args.task ≡ true)
+    let is : c.begun_at-begun.result ≡ (at_task s.tasks c.args.task empty_desk).begun = rw c.begun_at-begun.ensures refl in
+    if_some c.call_now.result (call_in_phase c.args.self.now.scenario c.args.task (at_task s.tasks c.args.task empty_desk).begun s.phases) (is_task c.args.self.now.scenario c.args.task ≡ true)
     (c.call_now.ensures ∙ (ap (λ n. call_in_phase s.scenario.now c.args.task n s.phases) is
-    ∙ ap (λ sc. call_in_phase sc c.args.task (at_task s.tasks.items c.args.task empty_desk).begun s.phases) own))
+    ∙ ap (λ sc. call_in_phase sc c.args.task (at_task s.tasks c.args.task empty_desk).begun s.phases) own))
     (λ call e. current_task c.args.self.now l k c.args.task call e)

@@ -11,7 +11,7 @@ pub returns : goal.returns
 returns c =
     let s = c.self.inside in
     let a = c.args.self.now in
-    let l : Lists = record { tasks = s.tasks.items; live = s.live.items; phases = s.phases; places = s.places; sums = s.sums } in
+    let l : Lists = record { tasks = s.tasks; live = s.live.numbers; phases = s.phases; places = s.places; sums = s.sums } in
     let k : Keeps a l = subst (λ (x : Audit). Keeps x l) c.self.view_is c.self.invariant in
     λ list e. c.amount.ensures.external a.scenario (past_at a) list k.summed
     (stands_made a l keys.Importance c.args.number k c.requires (ap is_default e) ∙ ap (λ x. Some x) e)

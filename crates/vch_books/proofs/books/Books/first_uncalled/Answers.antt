@@ -16,17 +16,16 @@ pub first_short-requires-clause-small : goal.first_short-requires-clause-small
 first_short-requires-clause-small c =
     let s = c.self.inside in
     let a = c.args.self.now in
-    let l : Lists = record { tasks = s.tasks.items; live = s.live.items; phases = s.phases; places = s.places; sums = s.sums } in
+    let l : Lists = record { tasks = s.tasks; live = s.live.numbers; phases = s.phases; places = s.places; sums = s.sums } in
     let k : Keeps a l = subst (λ (x : Audit). Keeps x l) c.self.view_is c.self.invariant in
     let own = ap (λ (x : Audit). x.history) c.self.view_is in
-    subst (λ (ts : List Desk). AllByRecursion (λ (d : Desk). d.begun ≤ 16384) ts) (sym c.as_slice.ensures.value) (all_few a l k)
+    all_few a l k
 
 pub returns : goal.returns
 returns c =
     let s = c.self.inside in
     let a = c.args.self.now in
-    let l : Lists = record { tasks = s.tasks.items; live = s.live.items; phases = s.phases; places = s.places; sums = s.sums } in
+    let l : Lists = record { tasks = s.tasks; live = s.live.numbers; phases = s.phases; places = s.places; sums = s.sums } in
     let k : Keeps a l = subst (λ (x : Audit). Keeps x l) c.self.view_is c.self.invariant in
     let own = ap (λ (x : Audit). x.history) c.self.view_is in
-    match_uncalled a l c.first_short.result k
-    (subst (λ (ts : List Desk). MatchOption c.first_short.result (EachTask (length ts) (λ t. length (spots_of s.places t) ≤ (at_task ts t empty_desk).begun)) (λ (u : Uncalled). IsShort s.places ts u.task u.number)) c.as_slice.ensures.value c.first_short.ensures)
+    match_uncalled a l c.first_short.result k c.first_short.ensures

@@ -16,8 +16,8 @@ use Rattle.vch_books.proofs.books.Books.let_go.Goals as goal
 pub let_go_at-requires : goal.let_go_at-requires
 let_go_at-requires c =
     let s = c.self.inside in
-    let a : Audit = record { scenario = s.scenario.now; history = s.history.now.entries; taken = s.taken } in
-    let l : Lists = record { tasks = s.tasks.items; live = s.live.items; phases = s.phases; places = s.places; sums = s.sums } in
+    let a : Audit = record { scenario = s.scenario.now; history = s.live.history; taken = s.taken } in
+    let l : Lists = record { tasks = s.tasks; live = s.live.numbers; phases = s.phases; places = s.places; sums = s.sums } in
     let h = a.history in
     let t = c.args.task in
     let k : Keeps a l = c.self.invariant in
@@ -28,8 +28,8 @@ let_go_at-requires c =
 pub begin_at-requires-clause-task : goal.begin_at-requires-clause-task
 begin_at-requires-clause-task c =
     let s = c.self.inside in
-    let a : Audit = record { scenario = s.scenario.now; history = s.history.now.entries; taken = s.taken } in
-    let l : Lists = record { tasks = s.tasks.items; live = s.live.items; phases = s.phases; places = s.places; sums = s.sums } in
+    let a : Audit = record { scenario = s.scenario.now; history = s.live.history; taken = s.taken } in
+    let l : Lists = record { tasks = s.tasks; live = s.live.numbers; phases = s.phases; places = s.places; sums = s.sums } in
     let h = a.history in
     let t = c.args.task in
     let k : Keeps a l = c.self.invariant in
@@ -37,14 +37,14 @@ begin_at-requires-clause-task c =
     let w = within_of a l t (after.let_go (store_at a) t c.args.name) k v in
     let m1 : List Desk = set_task l.tasks t (record (at_task l.tasks t empty_desk) { names = desks.one_less (at_task l.tasks t empty_desk).names c.args.name }) in
     let g1 : Goes h l.live l.tasks m1 = let_go_goes h l.live l.tasks t c.args.name w in
-    let e1 : c.let_go_at.new.tasks.items ≡ m1 = c.let_go_at.ensures in
+    let e1 : c.let_go_at.new.self ≡ m1 = c.let_go_at.ensures in
     subst (λ (ts : List Desk). (1 ≤ t) × (t ≤ length ts)) (sym e1) (within_after a l m1 t g1 w)
 
 pub begin_at-requires-clause-few : goal.begin_at-requires-clause-few
 begin_at-requires-clause-few c =
     let s = c.self.inside in
-    let a : Audit = record { scenario = s.scenario.now; history = s.history.now.entries; taken = s.taken } in
-    let l : Lists = record { tasks = s.tasks.items; live = s.live.items; phases = s.phases; places = s.places; sums = s.sums } in
+    let a : Audit = record { scenario = s.scenario.now; history = s.live.history; taken = s.taken } in
+    let l : Lists = record { tasks = s.tasks; live = s.live.numbers; phases = s.phases; places = s.places; sums = s.sums } in
     let h = a.history in
     let t = c.args.task in
     let k : Keeps a l = c.self.invariant in
@@ -52,14 +52,14 @@ begin_at-requires-clause-few c =
     let w = within_of a l t (after.let_go (store_at a) t c.args.name) k v in
     let m1 : List Desk = set_task l.tasks t (record (at_task l.tasks t empty_desk) { names = desks.one_less (at_task l.tasks t empty_desk).names c.args.name }) in
     let g1 : Goes h l.live l.tasks m1 = let_go_goes h l.live l.tasks t c.args.name w in
-    let e1 : c.let_go_at.new.tasks.items ≡ m1 = c.let_go_at.ensures in
+    let e1 : c.let_go_at.new.self ≡ m1 = c.let_go_at.ensures in
     subst (λ (ts : List Desk). (at_task ts t empty_desk).begun < 4294967295) (sym e1) (few_after a l m1 t k g1)
 
 pub invariant_of-self : goal.invariant_of-self
 invariant_of-self c =
     let s = c.self.inside in
-    let a : Audit = record { scenario = s.scenario.now; history = s.history.now.entries; taken = s.taken } in
-    let l : Lists = record { tasks = s.tasks.items; live = s.live.items; phases = s.phases; places = s.places; sums = s.sums } in
+    let a : Audit = record { scenario = s.scenario.now; history = s.live.history; taken = s.taken } in
+    let l : Lists = record { tasks = s.tasks; live = s.live.numbers; phases = s.phases; places = s.places; sums = s.sums } in
     let h = a.history in
     let t = c.args.task in
     let k : Keeps a l = c.self.invariant in
@@ -67,5 +67,5 @@ invariant_of-self c =
     let w = within_of a l t (after.let_go (store_at a) t c.args.name) k v in
     let m1 : List Desk = set_task l.tasks t (record (at_task l.tasks t empty_desk) { names = desks.one_less (at_task l.tasks t empty_desk).names c.args.name }) in
     let g1 : Goes h l.live l.tasks m1 = let_go_goes h l.live l.tasks t c.args.name w in
-    let e1 : c.let_go_at.new.tasks.items ≡ m1 = c.let_go_at.ensures in
+    let e1 : c.let_go_at.new.self ≡ m1 = c.let_go_at.ensures in
     subst (λ (ts : List Desk). Keeps (advanced a) (record l { tasks = ts })) (sym (c.begin_at.ensures ∙ ap (λ (ts : List Desk). begun_one ts t) e1)) (keeps_call a l m1 t (after.let_go (store_at a) t c.args.name) k g1 (ap (λ (x : Store). after.let_go x t c.args.name) k.store ∙ let_go_is h l.live l.tasks t c.args.name) v)

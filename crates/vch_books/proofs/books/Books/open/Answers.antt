@@ -1,6 +1,7 @@
-use Rattle.std.proofs.Common.{ap, ◌∙◌, refl}
+use Rattle.std.proofs.Common.{[], ap, sym, subst, ◌∙◌, refl}
 use Rattle.vch_books.specs.Audits.{Audit}
-use Rattle.vch_books.specs.Kept.{Lists}
+use Rattle.vch_books.specs.Kept.{Lists, Keeps}
+use Rattle.vch_books.specs.Living.{Living}
 use Rattle.std.proofs.Common.{replicate}
 use Rattle.vch_books.specs.Desks.{empty_desk}
 use Rattle.vch_books.proofs.Keeping.{keeps_start}
@@ -9,5 +10,6 @@ use Rattle.vch_books.proofs.books.Books.open.Goals as goal
 pub invariant_of-result : goal.invariant_of-result
 invariant_of-result c =
     let a : Audit = record { scenario = c.args.scenario.now; history = c.args.history.now.entries; taken = 0 } in
-    let l : Lists = record { tasks = c.in_ok-tasks.tasks.items; live = c.new.result.items; phases = 0; places = c.in_ok-places.places; sums = c.in_ok-sums.sums } in
-    keeps_start a l c.requires.limited c.requires.short refl (c.in_ok-tasks.ensures ∙ ap (λ n. replicate n empty_desk) c.len.ensures) c.new.ensures.items refl c.in_ok-places.ensures c.in_ok-sums.ensures
+    let l : Lists = record { tasks = c.in_ok-tasks.tasks; live = c.new.result.numbers; phases = 0; places = c.in_ok-places.places; sums = c.in_ok-sums.sums } in
+    subst (λ (x : Living). Keeps (record a { history = x.history }) (record l { live = x.numbers })) (sym c.new.ensures)
+    (keeps_start a (record l { live = [] }) c.requires.limited c.requires.short refl (c.in_ok-tasks.ensures ∙ ap (λ n. replicate n empty_desk) c.len.ensures) refl refl c.in_ok-places.ensures c.in_ok-sums.ensures)

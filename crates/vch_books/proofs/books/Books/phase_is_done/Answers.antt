@@ -14,10 +14,9 @@ pub returns : goal.returns
 returns c =
     let s = c.self.inside in
     let a = c.args.self.now in
-    let l : Lists = record { tasks = s.tasks.items; live = s.live.items; phases = s.phases; places = s.places; sums = s.sums } in
+    let l : Lists = record { tasks = s.tasks; live = s.live.numbers; phases = s.phases; places = s.places; sums = s.sums } in
     let k : Keeps a l = subst (λ (x : Audit). Keeps x l) c.self.view_is c.self.invariant in
     let own = ap (λ (x : Audit). x.history) c.self.view_is in
     let r = c.all_begun.result in
-    let e1 = subst (λ (ts : List Desk). IsTrue r ↔ EachTask (length ts) (λ t. lines_until s.scenario.now (s.phases + 1) t ≤ (at_task ts t empty_desk).begun)) c.as_slice.ensures.value c.all_begun.ensures in
-    let e2 = subst (λ (sc : Scenario). IsTrue r ↔ EachTask (length l.tasks) (λ t. lines_until sc (s.phases + 1) t ≤ (at_task l.tasks t empty_desk).begun)) (ap (λ (x : Audit). x.scenario) c.self.view_is) e1 in
+    let e2 = subst (λ (sc : Scenario). IsTrue r ↔ EachTask (length l.tasks) (λ t. lines_until sc (s.phases + 1) t ≤ (at_task l.tasks t empty_desk).begun)) (ap (λ (x : Audit). x.scenario) c.self.view_is) c.all_begun.ensures in
     done_kept a l r k e2

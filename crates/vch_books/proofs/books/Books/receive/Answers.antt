@@ -16,8 +16,8 @@ use Rattle.vch_books.proofs.books.Books.receive.Goals as goal
 pub take_first_at-requires : goal.take_first_at-requires
 take_first_at-requires c =
     let s = c.self.inside in
-    let a : Audit = record { scenario = s.scenario.now; history = s.history.now.entries; taken = s.taken } in
-    let l : Lists = record { tasks = s.tasks.items; live = s.live.items; phases = s.phases; places = s.places; sums = s.sums } in
+    let a : Audit = record { scenario = s.scenario.now; history = s.live.history; taken = s.taken } in
+    let l : Lists = record { tasks = s.tasks; live = s.live.numbers; phases = s.phases; places = s.places; sums = s.sums } in
     let h = a.history in
     let t = c.args.task in
     let k : Keeps a l = c.self.invariant in
@@ -28,8 +28,8 @@ take_first_at-requires c =
 pub begin_at-requires-clause-task : goal.begin_at-requires-clause-task
 begin_at-requires-clause-task c =
     let s = c.self.inside in
-    let a : Audit = record { scenario = s.scenario.now; history = s.history.now.entries; taken = s.taken } in
-    let l : Lists = record { tasks = s.tasks.items; live = s.live.items; phases = s.phases; places = s.places; sums = s.sums } in
+    let a : Audit = record { scenario = s.scenario.now; history = s.live.history; taken = s.taken } in
+    let l : Lists = record { tasks = s.tasks; live = s.live.numbers; phases = s.phases; places = s.places; sums = s.sums } in
     let h = a.history in
     let t = c.args.task in
     let k : Keeps a l = c.self.invariant in
@@ -37,14 +37,14 @@ begin_at-requires-clause-task c =
     let w = within_of a l t (after.taken_first (store_at a) t (rest_of (store.member (store_at a) t).queue)) k v in
     let m1 : List Desk = set_task l.tasks t (record (at_task l.tasks t empty_desk) { queue = rest_of (at_task l.tasks t empty_desk).queue }) in
     let g1 : Goes h l.live l.tasks m1 = take_goes h l.live l.tasks t w in
-    let e1 : c.take_first_at.new.tasks.items ≡ m1 = c.take_first_at.ensures in
+    let e1 : c.take_first_at.new.self ≡ m1 = c.take_first_at.ensures in
     subst (λ (ts : List Desk). (1 ≤ t) × (t ≤ length ts)) (sym e1) (within_after a l m1 t g1 w)
 
 pub begin_at-requires-clause-few : goal.begin_at-requires-clause-few
 begin_at-requires-clause-few c =
     let s = c.self.inside in
-    let a : Audit = record { scenario = s.scenario.now; history = s.history.now.entries; taken = s.taken } in
-    let l : Lists = record { tasks = s.tasks.items; live = s.live.items; phases = s.phases; places = s.places; sums = s.sums } in
+    let a : Audit = record { scenario = s.scenario.now; history = s.live.history; taken = s.taken } in
+    let l : Lists = record { tasks = s.tasks; live = s.live.numbers; phases = s.phases; places = s.places; sums = s.sums } in
     let h = a.history in
     let t = c.args.task in
     let k : Keeps a l = c.self.invariant in
@@ -52,14 +52,14 @@ begin_at-requires-clause-few c =
     let w = within_of a l t (after.taken_first (store_at a) t (rest_of (store.member (store_at a) t).queue)) k v in
     let m1 : List Desk = set_task l.tasks t (record (at_task l.tasks t empty_desk) { queue = rest_of (at_task l.tasks t empty_desk).queue }) in
     let g1 : Goes h l.live l.tasks m1 = take_goes h l.live l.tasks t w in
-    let e1 : c.take_first_at.new.tasks.items ≡ m1 = c.take_first_at.ensures in
+    let e1 : c.take_first_at.new.self ≡ m1 = c.take_first_at.ensures in
     subst (λ (ts : List Desk). (at_task ts t empty_desk).begun < 4294967295) (sym e1) (few_after a l m1 t k g1)
 
 pub invariant_of-self : goal.invariant_of-self
 invariant_of-self c =
     let s = c.self.inside in
-    let a : Audit = record { scenario = s.scenario.now; history = s.history.now.entries; taken = s.taken } in
-    let l : Lists = record { tasks = s.tasks.items; live = s.live.items; phases = s.phases; places = s.places; sums = s.sums } in
+    let a : Audit = record { scenario = s.scenario.now; history = s.live.history; taken = s.taken } in
+    let l : Lists = record { tasks = s.tasks; live = s.live.numbers; phases = s.phases; places = s.places; sums = s.sums } in
     let h = a.history in
     let t = c.args.task in
     let k : Keeps a l = c.self.invariant in
@@ -67,5 +67,5 @@ invariant_of-self c =
     let w = within_of a l t (after.taken_first (store_at a) t (rest_of (store.member (store_at a) t).queue)) k v in
     let m1 : List Desk = set_task l.tasks t (record (at_task l.tasks t empty_desk) { queue = rest_of (at_task l.tasks t empty_desk).queue }) in
     let g1 : Goes h l.live l.tasks m1 = take_goes h l.live l.tasks t w in
-    let e1 : c.take_first_at.new.tasks.items ≡ m1 = c.take_first_at.ensures in
+    let e1 : c.take_first_at.new.self ≡ m1 = c.take_first_at.ensures in
     subst (λ (ts : List Desk). Keeps (advanced a) (record l { tasks = ts })) (sym (c.begin_at.ensures ∙ ap (λ (ts : List Desk). begun_one ts t) e1)) (keeps_call a l m1 t (after.taken_first (store_at a) t (rest_of (store.member (store_at a) t).queue)) k g1 (ap (λ (x : Store). after.taken_first x t (rest_of (store.member x t).queue)) k.store ∙ take_is h l.live l.tasks t) v)

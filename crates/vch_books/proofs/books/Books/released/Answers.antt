@@ -4,16 +4,17 @@ use Rattle.vch_books.specs.Kept.{Lists, Keeps}
 use Rattle.std.specs.Prelude.{List}
 use Rattle.vch_model.specs.declared.entry.Entry.TheVariants as entries
 use Rattle.vch_books.specs.Audits.{past_at, advanced, IsNext}
+use Rattle.vch_books.specs.Living.{Living}
 use Rattle.vch_books.proofs.LiveChanges.{keeps_released}
 use Rattle.vch_books.proofs.books.Books.released.Goals as goal
 
 pub invariant_of-self : goal.invariant_of-self
 invariant_of-self c =
     let s = c.self.inside in
-    let a : Audit = record { scenario = s.scenario.now; history = s.history.now.entries; taken = s.taken } in
-    let l : Lists = record { tasks = s.tasks.items; live = s.live.items; phases = s.phases; places = s.places; sums = s.sums } in
+    let a : Audit = record { scenario = s.scenario.now; history = s.live.history; taken = s.taken } in
+    let l : Lists = record { tasks = s.tasks; live = s.live.numbers; phases = s.phases; places = s.places; sums = s.sums } in
     let h = a.history in
     let k : Keeps a l = c.self.invariant in
     let n : IsNext a (entries.Released c.args.made) = subst (λ (x : Audit). IsNext x (entries.Released c.args.made)) (sym c.self.view_is) c.requires.next in
     let f = c.in_ok-released.ensures a.scenario (past_at a) in
-    subst (λ (ls : List _). Keeps (advanced a) (record l { live = ls; sums = c.released.new.self })) (sym c.remove.ensures) (keeps_released a l c.released.new.self c.args.made k n f)
+    subst (λ (x : Living). Keeps (record (advanced a) { history = x.history }) (record l { live = x.numbers; sums = c.released.new.self })) (sym c.remove.ensures) (keeps_released a l c.released.new.self c.args.made k n f)

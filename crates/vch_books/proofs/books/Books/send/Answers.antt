@@ -18,8 +18,8 @@ use Rattle.vch_books.proofs.books.Books.send.Goals as goal
 pub append_at-requires : goal.append_at-requires
 append_at-requires c =
     let s = c.self.inside in
-    let a : Audit = record { scenario = s.scenario.now; history = s.history.now.entries; taken = s.taken } in
-    let l : Lists = record { tasks = s.tasks.items; live = s.live.items; phases = s.phases; places = s.places; sums = s.sums } in
+    let a : Audit = record { scenario = s.scenario.now; history = s.live.history; taken = s.taken } in
+    let l : Lists = record { tasks = s.tasks; live = s.live.numbers; phases = s.phases; places = s.places; sums = s.sums } in
     let h = a.history in
     let t = c.args.task in
     let k : Keeps a l = c.self.invariant in
@@ -32,8 +32,8 @@ append_at-requires c =
 pub begin_at-requires-clause-task : goal.begin_at-requires-clause-task
 begin_at-requires-clause-task c =
     let s = c.self.inside in
-    let a : Audit = record { scenario = s.scenario.now; history = s.history.now.entries; taken = s.taken } in
-    let l : Lists = record { tasks = s.tasks.items; live = s.live.items; phases = s.phases; places = s.places; sums = s.sums } in
+    let a : Audit = record { scenario = s.scenario.now; history = s.live.history; taken = s.taken } in
+    let l : Lists = record { tasks = s.tasks; live = s.live.numbers; phases = s.phases; places = s.places; sums = s.sums } in
     let h = a.history in
     let t = c.args.task in
     let k : Keeps a l = c.self.invariant in
@@ -43,14 +43,14 @@ begin_at-requires-clause-task c =
     let to = task_within a l k c.args.to (subst (λ (x : Audit). is_task x.scenario c.args.to ≡ true) (sym c.self.view_is) c.requires.to) in
     let m1 : List Desk = set_task l.tasks c.args.to (record (at_task l.tasks c.args.to empty_desk) { queue = (at_task l.tasks c.args.to empty_desk).queue ++ c.args.message ∷ [] }) in
     let g1 : Goes h l.live l.tasks m1 = append_goes h l.live l.tasks c.args.to c.args.message to good in
-    let e1 : c.append_at.new.tasks.items ≡ m1 = c.in_ok-append_at.ensures in
+    let e1 : c.in_ok-self-inside.field-0 ≡ m1 = c.in_ok-self-inside.ensures in
     subst (λ (ts : List Desk). (1 ≤ t) × (t ≤ length ts)) (sym e1) (within_after a l m1 t g1 w)
 
 pub begin_at-requires-clause-few : goal.begin_at-requires-clause-few
 begin_at-requires-clause-few c =
     let s = c.self.inside in
-    let a : Audit = record { scenario = s.scenario.now; history = s.history.now.entries; taken = s.taken } in
-    let l : Lists = record { tasks = s.tasks.items; live = s.live.items; phases = s.phases; places = s.places; sums = s.sums } in
+    let a : Audit = record { scenario = s.scenario.now; history = s.live.history; taken = s.taken } in
+    let l : Lists = record { tasks = s.tasks; live = s.live.numbers; phases = s.phases; places = s.places; sums = s.sums } in
     let h = a.history in
     let t = c.args.task in
     let k : Keeps a l = c.self.invariant in
@@ -60,14 +60,14 @@ begin_at-requires-clause-few c =
     let to = task_within a l k c.args.to (subst (λ (x : Audit). is_task x.scenario c.args.to ≡ true) (sym c.self.view_is) c.requires.to) in
     let m1 : List Desk = set_task l.tasks c.args.to (record (at_task l.tasks c.args.to empty_desk) { queue = (at_task l.tasks c.args.to empty_desk).queue ++ c.args.message ∷ [] }) in
     let g1 : Goes h l.live l.tasks m1 = append_goes h l.live l.tasks c.args.to c.args.message to good in
-    let e1 : c.append_at.new.tasks.items ≡ m1 = c.in_ok-append_at.ensures in
+    let e1 : c.in_ok-self-inside.field-0 ≡ m1 = c.in_ok-self-inside.ensures in
     subst (λ (ts : List Desk). (at_task ts t empty_desk).begun < 4294967295) (sym e1) (few_after a l m1 t k g1)
 
 pub invariant_of-self : goal.invariant_of-self
 invariant_of-self c =
     let s = c.self.inside in
-    let a : Audit = record { scenario = s.scenario.now; history = s.history.now.entries; taken = s.taken } in
-    let l : Lists = record { tasks = s.tasks.items; live = s.live.items; phases = s.phases; places = s.places; sums = s.sums } in
+    let a : Audit = record { scenario = s.scenario.now; history = s.live.history; taken = s.taken } in
+    let l : Lists = record { tasks = s.tasks; live = s.live.numbers; phases = s.phases; places = s.places; sums = s.sums } in
     let h = a.history in
     let t = c.args.task in
     let k : Keeps a l = c.self.invariant in
@@ -77,5 +77,5 @@ invariant_of-self c =
     let to = task_within a l k c.args.to (subst (λ (x : Audit). is_task x.scenario c.args.to ≡ true) (sym c.self.view_is) c.requires.to) in
     let m1 : List Desk = set_task l.tasks c.args.to (record (at_task l.tasks c.args.to empty_desk) { queue = (at_task l.tasks c.args.to empty_desk).queue ++ c.args.message ∷ [] }) in
     let g1 : Goes h l.live l.tasks m1 = append_goes h l.live l.tasks c.args.to c.args.message to good in
-    let e1 : c.append_at.new.tasks.items ≡ m1 = c.in_ok-append_at.ensures in
+    let e1 : c.in_ok-self-inside.field-0 ≡ m1 = c.in_ok-self-inside.ensures in
     subst (λ (ts : List Desk). Keeps (advanced a) (record l { tasks = ts })) (sym (c.begin_at.ensures ∙ ap (λ (ts : List Desk). begun_one ts t) e1)) (keeps_call a l m1 t (after.appended (store_at a) c.args.to (message_of a.history c.args.message)) k g1 (ap (λ (x : Store). after.appended x c.args.to (message_of h c.args.message)) k.store ∙ append_is h l.live l.tasks c.args.to c.args.message) v)

@@ -19,8 +19,8 @@ use Rattle.vch_books.proofs.books.Books.send_moved.Goals as goal
 pub append_at-requires : goal.append_at-requires
 append_at-requires c =
     let s = c.self.inside in
-    let a : Audit = record { scenario = s.scenario.now; history = s.history.now.entries; taken = s.taken } in
-    let l : Lists = record { tasks = s.tasks.items; live = s.live.items; phases = s.phases; places = s.places; sums = s.sums } in
+    let a : Audit = record { scenario = s.scenario.now; history = s.live.history; taken = s.taken } in
+    let l : Lists = record { tasks = s.tasks; live = s.live.numbers; phases = s.phases; places = s.places; sums = s.sums } in
     let h = a.history in
     let t = c.args.task in
     let k : Keeps a l = c.self.invariant in
@@ -33,8 +33,8 @@ append_at-requires c =
 pub let_go_at-requires : goal.let_go_at-requires
 let_go_at-requires c =
     let s = c.self.inside in
-    let a : Audit = record { scenario = s.scenario.now; history = s.history.now.entries; taken = s.taken } in
-    let l : Lists = record { tasks = s.tasks.items; live = s.live.items; phases = s.phases; places = s.places; sums = s.sums } in
+    let a : Audit = record { scenario = s.scenario.now; history = s.live.history; taken = s.taken } in
+    let l : Lists = record { tasks = s.tasks; live = s.live.numbers; phases = s.phases; places = s.places; sums = s.sums } in
     let h = a.history in
     let t = c.args.task in
     let k : Keeps a l = c.self.invariant in
@@ -44,14 +44,14 @@ let_go_at-requires c =
     let to = task_within a l k c.args.to (subst (λ (x : Audit). is_task x.scenario c.args.to ≡ true) (sym c.self.view_is) c.requires.to) in
     let m1 : List Desk = set_task l.tasks c.args.to (record (at_task l.tasks c.args.to empty_desk) { queue = (at_task l.tasks c.args.to empty_desk).queue ++ c.args.message ∷ [] }) in
     let g1 : Goes h l.live l.tasks m1 = append_goes h l.live l.tasks c.args.to c.args.message to good in
-    let e1 : c.append_at.new.tasks.items ≡ m1 = c.in_ok-append_at.ensures in
+    let e1 : c.in_ok-self-inside.field-0 ≡ m1 = c.in_ok-self-inside.ensures in
     subst (λ (ts : List Desk). (1 ≤ t) × (t ≤ length ts)) (sym e1) (within_after a l m1 t g1 w)
 
 pub begin_at-requires-clause-task : goal.begin_at-requires-clause-task
 begin_at-requires-clause-task c =
     let s = c.self.inside in
-    let a : Audit = record { scenario = s.scenario.now; history = s.history.now.entries; taken = s.taken } in
-    let l : Lists = record { tasks = s.tasks.items; live = s.live.items; phases = s.phases; places = s.places; sums = s.sums } in
+    let a : Audit = record { scenario = s.scenario.now; history = s.live.history; taken = s.taken } in
+    let l : Lists = record { tasks = s.tasks; live = s.live.numbers; phases = s.phases; places = s.places; sums = s.sums } in
     let h = a.history in
     let t = c.args.task in
     let k : Keeps a l = c.self.invariant in
@@ -61,17 +61,17 @@ begin_at-requires-clause-task c =
     let to = task_within a l k c.args.to (subst (λ (x : Audit). is_task x.scenario c.args.to ≡ true) (sym c.self.view_is) c.requires.to) in
     let m1 : List Desk = set_task l.tasks c.args.to (record (at_task l.tasks c.args.to empty_desk) { queue = (at_task l.tasks c.args.to empty_desk).queue ++ c.args.message ∷ [] }) in
     let g1 : Goes h l.live l.tasks m1 = append_goes h l.live l.tasks c.args.to c.args.message to good in
-    let e1 : c.append_at.new.tasks.items ≡ m1 = c.in_ok-append_at.ensures in
+    let e1 : c.in_ok-self-inside.field-0 ≡ m1 = c.in_ok-self-inside.ensures in
     let m2 : List Desk = set_task m1 t (record (at_task m1 t empty_desk) { names = desks.one_less (at_task m1 t empty_desk).names c.args.name }) in
     let g2 : Goes h l.live l.tasks m2 = goes_twice h l.live l.tasks m1 m2 g1 (let_go_goes h l.live m1 t c.args.name (within_after a l m1 t g1 w)) in
-    let e2 : c.let_go_at.new.tasks.items ≡ m2 = c.let_go_at.ensures ∙ ap (λ (ts : List Desk). set_task ts t (record (at_task ts t empty_desk) { names = desks.one_less (at_task ts t empty_desk).names c.args.name })) e1 in
+    let e2 : c.let_go_at.new.self ≡ m2 = c.let_go_at.ensures ∙ ap (λ (ts : List Desk). set_task ts t (record (at_task ts t empty_desk) { names = desks.one_less (at_task ts t empty_desk).names c.args.name })) e1 in
     subst (λ (ts : List Desk). (1 ≤ t) × (t ≤ length ts)) (sym e2) (within_after a l m2 t g2 w)
 
 pub begin_at-requires-clause-few : goal.begin_at-requires-clause-few
 begin_at-requires-clause-few c =
     let s = c.self.inside in
-    let a : Audit = record { scenario = s.scenario.now; history = s.history.now.entries; taken = s.taken } in
-    let l : Lists = record { tasks = s.tasks.items; live = s.live.items; phases = s.phases; places = s.places; sums = s.sums } in
+    let a : Audit = record { scenario = s.scenario.now; history = s.live.history; taken = s.taken } in
+    let l : Lists = record { tasks = s.tasks; live = s.live.numbers; phases = s.phases; places = s.places; sums = s.sums } in
     let h = a.history in
     let t = c.args.task in
     let k : Keeps a l = c.self.invariant in
@@ -81,17 +81,17 @@ begin_at-requires-clause-few c =
     let to = task_within a l k c.args.to (subst (λ (x : Audit). is_task x.scenario c.args.to ≡ true) (sym c.self.view_is) c.requires.to) in
     let m1 : List Desk = set_task l.tasks c.args.to (record (at_task l.tasks c.args.to empty_desk) { queue = (at_task l.tasks c.args.to empty_desk).queue ++ c.args.message ∷ [] }) in
     let g1 : Goes h l.live l.tasks m1 = append_goes h l.live l.tasks c.args.to c.args.message to good in
-    let e1 : c.append_at.new.tasks.items ≡ m1 = c.in_ok-append_at.ensures in
+    let e1 : c.in_ok-self-inside.field-0 ≡ m1 = c.in_ok-self-inside.ensures in
     let m2 : List Desk = set_task m1 t (record (at_task m1 t empty_desk) { names = desks.one_less (at_task m1 t empty_desk).names c.args.name }) in
     let g2 : Goes h l.live l.tasks m2 = goes_twice h l.live l.tasks m1 m2 g1 (let_go_goes h l.live m1 t c.args.name (within_after a l m1 t g1 w)) in
-    let e2 : c.let_go_at.new.tasks.items ≡ m2 = c.let_go_at.ensures ∙ ap (λ (ts : List Desk). set_task ts t (record (at_task ts t empty_desk) { names = desks.one_less (at_task ts t empty_desk).names c.args.name })) e1 in
+    let e2 : c.let_go_at.new.self ≡ m2 = c.let_go_at.ensures ∙ ap (λ (ts : List Desk). set_task ts t (record (at_task ts t empty_desk) { names = desks.one_less (at_task ts t empty_desk).names c.args.name })) e1 in
     subst (λ (ts : List Desk). (at_task ts t empty_desk).begun < 4294967295) (sym e2) (few_after a l m2 t k g2)
 
 pub invariant_of-self : goal.invariant_of-self
 invariant_of-self c =
     let s = c.self.inside in
-    let a : Audit = record { scenario = s.scenario.now; history = s.history.now.entries; taken = s.taken } in
-    let l : Lists = record { tasks = s.tasks.items; live = s.live.items; phases = s.phases; places = s.places; sums = s.sums } in
+    let a : Audit = record { scenario = s.scenario.now; history = s.live.history; taken = s.taken } in
+    let l : Lists = record { tasks = s.tasks; live = s.live.numbers; phases = s.phases; places = s.places; sums = s.sums } in
     let h = a.history in
     let t = c.args.task in
     let k : Keeps a l = c.self.invariant in
@@ -101,8 +101,8 @@ invariant_of-self c =
     let to = task_within a l k c.args.to (subst (λ (x : Audit). is_task x.scenario c.args.to ≡ true) (sym c.self.view_is) c.requires.to) in
     let m1 : List Desk = set_task l.tasks c.args.to (record (at_task l.tasks c.args.to empty_desk) { queue = (at_task l.tasks c.args.to empty_desk).queue ++ c.args.message ∷ [] }) in
     let g1 : Goes h l.live l.tasks m1 = append_goes h l.live l.tasks c.args.to c.args.message to good in
-    let e1 : c.append_at.new.tasks.items ≡ m1 = c.in_ok-append_at.ensures in
+    let e1 : c.in_ok-self-inside.field-0 ≡ m1 = c.in_ok-self-inside.ensures in
     let m2 : List Desk = set_task m1 t (record (at_task m1 t empty_desk) { names = desks.one_less (at_task m1 t empty_desk).names c.args.name }) in
     let g2 : Goes h l.live l.tasks m2 = goes_twice h l.live l.tasks m1 m2 g1 (let_go_goes h l.live m1 t c.args.name (within_after a l m1 t g1 w)) in
-    let e2 : c.let_go_at.new.tasks.items ≡ m2 = c.let_go_at.ensures ∙ ap (λ (ts : List Desk). set_task ts t (record (at_task ts t empty_desk) { names = desks.one_less (at_task ts t empty_desk).names c.args.name })) e1 in
+    let e2 : c.let_go_at.new.self ≡ m2 = c.let_go_at.ensures ∙ ap (λ (ts : List Desk). set_task ts t (record (at_task ts t empty_desk) { names = desks.one_less (at_task ts t empty_desk).names c.args.name })) e1 in
     subst (λ (ts : List Desk). Keeps (advanced a) (record l { tasks = ts })) (sym (c.begin_at.ensures ∙ ap (λ (ts : List Desk). begun_one ts t) e2)) (keeps_call a l m2 t (after.let_go (after.appended (store_at a) c.args.to (message_of a.history c.args.message)) t c.args.name) k g2 (ap (λ (x : Store). after.let_go (after.appended x c.args.to (message_of h c.args.message)) t c.args.name) k.store ∙ (ap (λ (x : Store). after.let_go x t c.args.name) (append_is h l.live l.tasks c.args.to c.args.message) ∙ let_go_is h l.live m1 t c.args.name)) v)

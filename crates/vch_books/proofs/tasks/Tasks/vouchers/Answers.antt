@@ -1,0 +1,9 @@
+use Rattle.std.proofs.Common.{◌≡◌, List, ◌∙◌, ap}
+use Rattle.std.specs.Prelude.{nat_eq}
+use Rattle.vch_books.specs.Counts.{different_by}
+use Rattle.vch_books.specs.Desks.{Desk}
+use Rattle.vch_books.specs.Holding.{all_numbers, different_numbers, held_numbers}
+use Rattle.vch_books.proofs.tasks.Tasks.vouchers.Goals as goal
+
+pub returns : goal.returns
+returns c = c.vouchers.ensures ∙ (c.self.invariant.vouchers.many ∙ ap (λ (ts : List Desk). different_numbers (all_numbers ts)) c.self.view_is)

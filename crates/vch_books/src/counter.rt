@@ -1,0 +1,74 @@
+ghost use Rattle.std.specs.Prelude.{◌≡◌, ◌++◌, ◌∷◌, [], List, is_some, OnOk};
+ghost use Rattle.std.specs.Map.{count_at};
+ghost use Rattle.indexmap.specs.IndexMap.{get, index_map_len};
+ghost use Rattle.vch_books.specs.Counts.{Counts};
+
+use crate::names::after;
+use indexmap::IndexMap;
+use std::alloc::Global;
+use std::hash::Hash;
+use vch_base::NoMemory;
+
+/// How often each item was added and not removed. An item without a count is not there.
+#[derive(Drop)]
+pub struct Counter<T: Eq + Hash> {
+    counts: IndexMap<T, u64>,
+}
+
+impl<T: Eq + Hash + Copy + Drop> Counter<T> {
+    /// No item. It takes no memory.
+    pub fn new(alloc: Global) -> Counter<T>
+        ensures { Counts T.eq result.counts [] }
+    {
+        Counter {
+            counts: IndexMap::new(alloc),
+        }
+    }
+
+    /// How many different items there are. Constant time.
+    pub fn len(&self) -> usize
+        ensures { result ≡ index_map_len self.now.counts }
+    {
+        self.counts.len()
+    }
+
+    /// Whether an item is there. Expected constant time.
+    pub fn has(&self, item: &T) -> bool
+        ensures { result ≡ is_some (get T.eq self.now.counts item.now) }
+    {
+        self.counts.get(item).is_some()
+    }
+
+    /// How often an item is there.
+    fn count(&self, item: &T) -> u64
+        ensures { result ≡ count_at (get T.eq self.now.counts) item.now }
+    {
+        match self.counts.get(item) {
+            Some(count) => *count,
+            None => 0,
+        }
+    }
+
+    /// An item comes, somewhere in the list. Expected amortised constant time. The one error is out of memory.
+    pub fn add(&mut self, item: T) -> Result<(), NoMemory>
+        ensures { (front back : List T) → Counts T.eq self.old.counts (front ++ back) → OnOk result (Counts T.eq self.new.counts (front ++ item ∷ back)) }
+    {
+        let count = after(self.count(&item))?;
+        self.counts.insert(item, count)?;
+        Ok(())
+    }
+
+    /// An item goes. Expected constant time; it takes no memory.
+    pub fn remove(&mut self, item: &T)
+        ensures { (front back : List T) → Counts T.eq self.old.counts (front ++ item.now ∷ back) → Counts T.eq self.new.counts (front ++ back) }
+    {
+        let count = self.count(item);
+        if count <= 1 {
+            self.counts.swap_remove(item);
+            return;
+        }
+        if let Some(left) = self.counts.get_mut(item) {
+            *left = count - 1;
+        }
+    }
+}
