@@ -9,8 +9,8 @@
 //!
 //! **The invariant** (`Keeps`): what was taken is legal, and the lists stand for the sequential store after it. Each number of a
 //! voucher is that of a live value of its key; no two live values are equal; numbers of live values rise; each task has begun as many
-//! calls as the history has of it; the sums are those of the history. Indexes and counts are in the invariants of the types that keep them:
-//! an index of the contents of the live values (`Live`), and the counts of who holds what (`Tasks`, by `Holders`).
+//! calls as the history has of it; the sums are those of the history. Indexes and counts are in the invariants of the types that
+//! keep them: an index of the contents of the live values (`Live`), and the counts of who holds what (`Tasks`, by `Holders`).
 //!
 //! ```rust
 //! let books = Books::open(alloc, &scenario, &history)?;  // nothing was taken

@@ -1,0 +1,16 @@
+pub mod Times
+pub mod Pictures
+pub mod Steps
+pub mod Known
+pub mod Counting
+pub mod Naming
+pub mod Sound
+pub mod Seen
+pub mod Taking
+pub mod Giving
+pub mod Starting
+pub mod Desked
+pub mod Different
+pub mod Changes
+pub mod Callers
+pub mod CallerLemmas
