@@ -1,0 +1,13 @@
+pub mod keys
+pub mod holders
+pub mod claims
+pub mod framing
+pub mod lets
+pub mod asks
+pub mod rechecks
+pub mod refers
+pub mod starting
+pub mod counts
+pub mod follows
+pub mod phases
+pub mod CallerLemmas

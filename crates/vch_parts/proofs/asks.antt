@@ -1,0 +1,4 @@
+pub mod Ledger
+pub mod LiveValue
+pub mod Asks
+pub mod AsksEvent

@@ -1,0 +1,5 @@
+pub mod Claims
+pub mod Expected
+pub mod OnClaims
+pub mod Taking
+pub mod OneClaim

@@ -1,0 +1,4 @@
+pub mod KeyCases
+pub mod Entered
+pub mod Elsewhere
+pub mod Maps

@@ -1,0 +1,2 @@
+pub mod LetsGo
+pub mod LetsGoEvent

@@ -1,0 +1,4 @@
+pub mod Checked
+pub mod Rechecks
+pub mod Gone
+pub mod RechecksEvent

@@ -1,0 +1,11 @@
+pub mod Asking
+pub mod Plain
+pub mod Shape
+pub mod Pictures
+pub mod Stands
+pub mod Moves
+pub mod Reached
+pub mod Fresh
+pub mod Nexts
+pub mod Framed
+pub mod Phases
