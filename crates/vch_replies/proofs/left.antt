@@ -1,0 +1,3 @@
+pub mod DueSet
+pub mod Recounted
+pub mod Paid

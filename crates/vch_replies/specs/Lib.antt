@@ -1,0 +1,5 @@
+pub mod Told
+pub mod Begins
+pub mod Replied
+pub mod Known
+pub mod Left
