@@ -1,8 +1,9 @@
 -- What other crates cite of the lemmas of this one.
 pub use Rattle.vch_parts.proofs.claims.OnClaims.{race_keeps, race_shows, back_keeps, back_shows, shape_on, picture_on}
 pub use Rattle.vch_parts.proofs.counts.Few.{claims_few, refers_few, asks_few, asked_few, holders_few}
+pub use Rattle.vch_parts.proofs.framing.Boths.{both_put, both_at, both_length}
 pub use Rattle.vch_parts.proofs.framing.Closing.{Formless, closed_frames, holds_closed, receipts_closed, claimed_closed}
-pub use Rattle.vch_parts.proofs.framing.FrameParts.{frames_of, formless_of, twin}
+pub use Rattle.vch_parts.proofs.framing.FrameParts.{frames_of, formless_of, no_claim, no_receipt, twin}
 pub use Rattle.vch_parts.proofs.framing.Glue.{in_parts, twin_of, from_end, Happens, event_of_run}
 pub use Rattle.vch_parts.proofs.framing.NextKinds.{part_at, desk_inside, next_agrees, is_next}
 pub use Rattle.vch_parts.proofs.framing.OfParts.{numbers_of, task_inside, own_frame, own_begun, tasks_then, entries_then, kept_then}

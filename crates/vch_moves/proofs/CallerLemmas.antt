@@ -1,0 +1,17 @@
+-- What other crates cite of the lemmas of this one.
+pub use Rattle.vch_moves.proofs.ending.Refused.{refused_stands}
+pub use Rattle.vch_moves.proofs.beginning.Begun.{create_begun, exit_begun, answered_begun}
+pub use Rattle.vch_moves.proofs.beginning.Copied.{copied_stands}
+pub use Rattle.vch_moves.proofs.beginning.Bare.{taken_stands, queued_stands}
+pub use Rattle.vch_moves.proofs.ending.Created.{created_stands}
+pub use Rattle.vch_moves.proofs.ending.Sent.{sent_moving, sent_staying}
+pub use Rattle.vch_moves.proofs.ending.Received.{received_stands}
+pub use Rattle.vch_moves.proofs.leaving.Dropped.{dropped_stands}
+pub use Rattle.vch_moves.proofs.leaving.Exits.{gone_stands, lost_stands, left_stands}
+pub use Rattle.vch_moves.proofs.working.Formed.{formed_stands}
+pub use Rattle.vch_moves.proofs.keeping.Keeping.{moved_stands}
+pub use Rattle.vch_moves.proofs.keeping.Stepping.{OneStep, step_stands}
+pub use Rattle.vch_moves.proofs.keeping.Between.{between_stands}
+pub use Rattle.vch_moves.proofs.sharing.SharedStep.{SharedStep, shared_stands}
+pub use Rattle.vch_moves.proofs.leaving.GivesUp.{GivesUp, Leaves, gives_up_stands}
+pub use Rattle.vch_moves.proofs.working.Given.{managed_differ}

@@ -1,0 +1,10 @@
+pub mod holding
+pub mod desks
+pub mod keeping
+pub mod ending
+pub mod sharing
+pub mod leaving
+pub mod working
+pub mod beginning
+pub mod stating
+pub mod CallerLemmas

@@ -1,0 +1,4 @@
+pub mod Different
+pub mod Items
+pub mod Vouchers
+pub mod InTasks

@@ -1,0 +1,3 @@
+pub mod GivesUp
+pub mod Dropped
+pub mod Exits

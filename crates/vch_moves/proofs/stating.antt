@@ -1,0 +1,4 @@
+pub mod Begins
+pub mod Places
+pub mod Leaves
+pub mod Forming
