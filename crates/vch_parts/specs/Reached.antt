@@ -67,6 +67,12 @@ pub record Follows (kind : Kind) (t : ℕ) (old new : Parts) : Type 0 where
   pub scenario : new.scenario ≡ old.scenario
   pub event : IsEvent old.scenario kind t (plain_of old) (plain_of new)
 
+-- the same with memory out or not, for an event that may ask for memory
+pub record MayFollow (kind : Kind) (t : ℕ) (old new : Parts) : Type 0 where
+  pub scenario : new.scenario ≡ old.scenario
+  pub want : Bool
+  pub event : IsEventBy old.scenario want kind t (plain_of old) (plain_of new)
+
 -- the kind of a task's next event, or none, in every state that the parts stand for
 unfoldable pub IsNext : Parts → ℕ → Option Kind → Type 0
 IsNext p t kind = (m : Machine) → Stands p m → next_kind p.scenario m t ≡ kind
