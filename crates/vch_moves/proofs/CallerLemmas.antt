@@ -15,3 +15,7 @@ pub use Rattle.vch_moves.proofs.keeping.Between.{between_stands}
 pub use Rattle.vch_moves.proofs.sharing.SharedStep.{SharedStep, shared_stands}
 pub use Rattle.vch_moves.proofs.leaving.GivesUp.{GivesUp, Leaves, gives_up_stands}
 pub use Rattle.vch_moves.proofs.working.Given.{managed_differ}
+pub use Rattle.vch_moves.proofs.happening.Running.{stands_of, ties_of, from_state, next_in, event_by, may_follow}
+pub use Rattle.vch_moves.proofs.happening.Tasks.{same_begun, free_of, at_work_of, forms_call, forms_of, idle_of}
+pub use Rattle.vch_moves.proofs.happening.Beginning.{begin_next, begin_event, begin_happens, create_empty, create_long, create_framed, send_nowhere, send_full, send_bare, send_unknown, send_framed, recv_nothing, recv_bare, recv_framed}
+pub use Rattle.vch_moves.proofs.happening.Rooms.{entry_room}

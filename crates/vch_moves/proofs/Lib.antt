@@ -7,4 +7,5 @@ pub mod leaving
 pub mod working
 pub mod beginning
 pub mod stating
+pub mod happening
 pub mod CallerLemmas

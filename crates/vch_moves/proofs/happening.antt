@@ -1,0 +1,4 @@
+pub mod Running
+pub mod Tasks
+pub mod Beginning
+pub mod Rooms
