@@ -19,3 +19,4 @@ pub use Rattle.vch_moves.proofs.happening.Running.{stands_of, ties_of, from_stat
 pub use Rattle.vch_moves.proofs.happening.Tasks.{same_begun, free_of, at_work_of, forms_call, forms_of, idle_of}
 pub use Rattle.vch_moves.proofs.happening.Beginning.{begin_next, begin_event, begin_happens, create_empty, create_long, create_framed, send_nowhere, send_full, send_bare, send_unknown, send_framed, recv_nothing, recv_bare, recv_framed}
 pub use Rattle.vch_moves.proofs.happening.Rooms.{entry_room}
+pub use Rattle.vch_moves.proofs.happening.Calls.{is_own, AtCall, at_call, at_call_of, own_event}

@@ -1,4 +1,5 @@
 pub mod Running
 pub mod Tasks
+pub mod Calls
 pub mod Beginning
 pub mod Rooms
