@@ -20,3 +20,4 @@ pub use Rattle.vch_moves.proofs.happening.Tasks.{same_begun, free_of, at_work_of
 pub use Rattle.vch_moves.proofs.happening.Beginning.{begin_next, begin_event, begin_happens, create_empty, create_long, create_framed, send_nowhere, send_full, send_bare, send_unknown, send_framed, recv_nothing, recv_bare, recv_framed}
 pub use Rattle.vch_moves.proofs.happening.Rooms.{entry_room}
 pub use Rattle.vch_moves.proofs.happening.Calls.{is_own, AtCall, at_call, at_call_of, own_event}
+pub use Rattle.vch_moves.proofs.happening.Ends.{is_call, call_happens, make_event, place_event, work_is_done, exit_event, exit_name, exit_message, exit_left, first_message, no_message, full_queue, room_in_queue, send_too_many, send_wanting, send_placed, send_inside}

@@ -1,5 +1,6 @@
 pub mod Running
 pub mod Tasks
 pub mod Calls
+pub mod Ends
 pub mod Beginning
 pub mod Rooms
