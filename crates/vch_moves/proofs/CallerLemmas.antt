@@ -21,3 +21,4 @@ pub use Rattle.vch_moves.proofs.happening.Beginning.{begin_next, begin_event, be
 pub use Rattle.vch_moves.proofs.happening.Rooms.{entry_room}
 pub use Rattle.vch_moves.proofs.happening.Calls.{is_own, AtCall, at_call, at_call_of, own_event}
 pub use Rattle.vch_moves.proofs.happening.Ends.{is_call, call_happens, make_event, place_event, work_is_done, exit_event, exit_name, exit_message, exit_left, first_message, no_message, full_queue, room_in_queue, send_too_many, send_wanting, send_placed, send_inside}
+pub use Rattle.vch_moves.proofs.happening.Rooms.{begin_room, make_room, place_create_room, place_recv_room, place_send_room, work_room, exit_room}
