@@ -4,3 +4,4 @@ pub mod Calls
 pub mod Ends
 pub mod Beginning
 pub mod Rooms
+pub mod Openings
