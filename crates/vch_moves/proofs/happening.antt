@@ -5,3 +5,4 @@ pub mod Ends
 pub mod Beginning
 pub mod Rooms
 pub mod Openings
+pub mod Closings
