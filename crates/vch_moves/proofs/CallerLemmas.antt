@@ -24,3 +24,5 @@ pub use Rattle.vch_moves.proofs.happening.Ends.{is_call, call_happens, make_even
 pub use Rattle.vch_moves.proofs.happening.Rooms.{begin_room, make_room, place_create_room, place_recv_room, place_send_room, work_room, exit_room}
 pub use Rattle.vch_moves.proofs.happening.Openings.{is_answered, counts_nothing, refused_nothing, answers_at_once, create_opens, exit_opens, drop_at_once, send_knows_none, send_copies, send_finds_full, send_queues, recv_finds_none, recv_takes, recv_keys, recv_copies}
 pub use Rattle.vch_moves.proofs.happening.Closings.{refuses, make_wants, making_room, create_room, create_wants, create_places, send_to, send_room, send_times_out, send_wants, send_places, recv_room, recv_wants, recv_places, recv_there, exit_has_room, exit_forms, exit_gives_name, exit_gives_message, exit_ends}
+pub use Rattle.vch_moves.proofs.happening.Altering.{copy_alters, remove_alters, remove_same_alters}
+pub use Rattle.vch_moves.proofs.happening.Recording.{named_voucher, unnamed_voucher, record_room, record_refused, record_works}

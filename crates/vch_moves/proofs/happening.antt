@@ -6,3 +6,5 @@ pub mod Beginning
 pub mod Rooms
 pub mod Openings
 pub mod Closings
+pub mod Altering
+pub mod Recording
