@@ -3,6 +3,7 @@ pub mod Replaced
 pub mod FrameParts
 pub mod Closing
 pub mod Glue
+pub mod Sides
 pub mod Put
 pub mod OfParts
 pub mod NextKinds

@@ -1,5 +1,5 @@
 -- What the parts are at every moment: the end of a run of the event machine over their own scenario.
-use Rattle.std.specs.Prelude.{◌≡◌, ℕ, Bool, List, [], ◌∷◌, Option, Some}
+use Rattle.std.specs.Prelude.{◌≡◌, ℕ, ◌==◌, Bool, if◌then◌else◌, List, [], ◌∷◌, length, Option, Some}
 use Rattle.vch_base.specs.declared.kind.Kind.{Kind}
 use Rattle.vch_bounds.specs.Bounded.{Limited}
 use Rattle.vch_model.specs.declared.lists.Scenario.{Scenario}
@@ -39,9 +39,14 @@ IsEvent sc kind t old new =
 abbrev pub part_in : Desk → Working → Part
 part_in d x = record { names = d.names; next = d.next; queue = d.queue; limit = d.limit; begun = x.begun; frame = x.frame }
 
+-- tasks with both, side by side
+abbrev pub beside : List Desk → List Working → List Part
+beside (d ∷ desks) (x ∷ frames) = part_in d x ∷ beside desks frames
+beside desks frames = []
+
+-- all tasks, each of which has both; where there are not as many of both, no task is there
 abbrev pub parts_in : List Desk → List Working → List Part
-parts_in (d ∷ desks) (x ∷ frames) = part_in d x ∷ parts_in desks frames
-parts_in desks frames = []
+parts_in desks frames = if length desks == length frames then beside desks frames else []
 
 abbrev pub plain_of : Parts → Plain
 plain_of p = record {

@@ -37,6 +37,7 @@ use Rattle.vch_parts.specs.Reached.{plain_of, part_in, parts_in, Reached, IsStat
 use Rattle.vch_parts.specs.Shape.{IsName, IsReceipt, IsLet, IsClaim, IsFrame, IsTask}
 use Rattle.vch_parts.proofs.framing.Glue.{in_parts}
 use Rattle.vch_parts.proofs.framing.OfParts.{range}
+use Rattle.vch_parts.proofs.framing.Sides.{as_many_desks, side_at}
 
 -- A name is there on both sides or on none.
 
@@ -137,27 +138,15 @@ task_agrees sc x t phase p y s = by p.frame y.frame s.frame
 
 -- A task's part, from its names and what it works at.
 
-part_is : (ds : List Desk) (fs : List Working) (i : ℕ) → i < length (parts_in ds fs) → get_or (parts_in ds fs) i idle_part ≡ part_in (get_or ds i (empty_desk 0)) (get_or fs i resting)
-part_is [] fs i l = absurd (omega (arith, l))
-part_is (d ∷ ds) [] i l = absurd (omega (arith, l))
-part_is (d ∷ ds) (x ∷ fs) zero l = refl
-part_is (d ∷ ds) (x ∷ fs) (suc i) l = part_is ds fs i (omega (arith, l))
-
 pub part_at : (ds : List Desk) (fs : List Working) (t : ℕ) → 0 < t → t - 1 < length (parts_in ds fs) → at_task (parts_in ds fs) t idle_part ≡ part_in (desk ds t) (working_of fs t)
-part_at ds fs zero p l = absurd (omega (arith, p))
-part_at ds fs (suc i) p l = part_is ds fs i (omega (arith, l))
-
-desks_range : (ds : List Desk) (fs : List Working) → length (parts_in ds fs) ≤ length ds
-desks_range [] fs = omega arith
-desks_range (d ∷ ds) [] = omega arith
-desks_range (d ∷ ds) (x ∷ fs) = let e : length (parts_in ds fs) ≤ length ds = desks_range ds fs in omega (arith, e)
+part_at = side_at
 
 -- each task has names
 pub desk_inside : (p : Parts) (t : ℕ) → Reached p → is_task p.scenario t ≡ true → (1 ≤ t) × (t ≤ length p.vouchers)
 desk_inside p t reached task =
     let n = range p t reached task in
     let a : t - 1 < length (parts_in p.vouchers p.frames) = n.1 in
-    let b : length (parts_in p.vouchers p.frames) ≤ length p.vouchers = desks_range p.vouchers p.frames in
+    let b : length (parts_in p.vouchers p.frames) ≤ length p.vouchers = as_many_desks p.vouchers p.frames in
     (n.0, omega (arith, n.0, a, b))
 
 pub next_agrees : (p : Parts) (t : ℕ) (m : Machine) → is_task p.scenario t ≡ true → IsState p.scenario (plain_of p) m
