@@ -26,3 +26,4 @@ pub use Rattle.vch_moves.proofs.happening.Openings.{is_answered, counts_nothing,
 pub use Rattle.vch_moves.proofs.happening.Closings.{refuses, make_wants, making_room, create_room, create_wants, create_places, send_to, send_room, send_times_out, send_wants, send_places, recv_room, recv_wants, recv_places, recv_there, exit_has_room, exit_forms, exit_gives_name, exit_gives_message, exit_ends}
 pub use Rattle.vch_moves.proofs.happening.Altering.{copy_alters, remove_alters, remove_same_alters}
 pub use Rattle.vch_moves.proofs.happening.Recording.{named_voucher, unnamed_voucher, record_room, record_refused, record_works}
+pub use Rattle.vch_moves.proofs.happening.Putting.{own_desk, own_work, all_desks, desks_then, put_same, stepped_is}

@@ -8,3 +8,5 @@ pub mod Openings
 pub mod Closings
 pub mod Altering
 pub mod Recording
+pub mod Putting
+pub mod Places
