@@ -27,3 +27,4 @@ pub use Rattle.vch_moves.proofs.happening.Closings.{refuses, make_wants, making_
 pub use Rattle.vch_moves.proofs.happening.Altering.{copy_alters, remove_alters, remove_same_alters}
 pub use Rattle.vch_moves.proofs.happening.Recording.{named_voucher, unnamed_voucher, record_room, record_refused, record_works}
 pub use Rattle.vch_moves.proofs.happening.Putting.{own_desk, own_work, all_desks, desks_then, put_same, stepped_is}
+pub use Rattle.vch_moves.proofs.happening.Opened.{begun_few, begun_range, stepped_begun, opened_is}

@@ -10,3 +10,4 @@ pub mod Altering
 pub mod Recording
 pub mod Putting
 pub mod Places
+pub mod Opened
