@@ -28,3 +28,4 @@ pub use Rattle.vch_moves.proofs.happening.Altering.{copy_alters, remove_alters, 
 pub use Rattle.vch_moves.proofs.happening.Recording.{named_voucher, unnamed_voucher, record_room, record_refused, record_works}
 pub use Rattle.vch_moves.proofs.happening.Putting.{own_desk, own_work, all_desks, desks_then, put_same, stepped_is}
 pub use Rattle.vch_moves.proofs.happening.Opened.{begun_few, begun_range, stepped_begun, opened_is}
+pub use Rattle.vch_moves.proofs.happening.Valued.{formed_is, copied_is}

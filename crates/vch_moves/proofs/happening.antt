@@ -11,3 +11,4 @@ pub mod Recording
 pub mod Putting
 pub mod Places
 pub mod Opened
+pub mod Valued
