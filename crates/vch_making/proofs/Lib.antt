@@ -1,1 +1,2 @@
 pub mod refusals
+pub mod giving
