@@ -1,2 +1,5 @@
 pub mod Orders
 pub mod Receives
+pub mod MadeLive
+pub mod FreshLive
+pub mod Gives

@@ -1,4 +1,5 @@
 -- What other crates cite of the lemmas of this one.
+pub use Rattle.vch_parts.proofs.asks.LiveValue.{value_belongs}
 pub use Rattle.vch_parts.proofs.claims.OnClaims.{Shows, race_keeps, race_shows, back_keeps, back_shows, shape_on, picture_on}
 pub use Rattle.vch_parts.proofs.counts.Few.{claims_few, refers_few, asks_few, asked_few, holders_few}
 pub use Rattle.vch_parts.proofs.framing.Boths.{both_put, both_at, both_length}

@@ -1,0 +1,34 @@
+-- What a manager's answer leaves of the parts.
+use Rattle.std.specs.Prelude.{◌≡◌, ℕ, ◌+◌, ◌-◌, ◌<◌, ◌≤◌, ◌∷◌, ◌++◌, [], length, slice_set, Some, Ok, Bool, true, false}
+use Rattle.vch_base.specs.declared.key.Key.{Key}
+use Rattle.vch_base.specs.Keys.{number_of}
+use Rattle.vch_base.specs.Keyed.{of_key, with_key}
+use Rattle.vch_base.specs.declared.manager.Got.TheVariants as got
+use Rattle.vch_base.specs.declared.value.Value.{Value}
+use Rattle.vch_base.specs.Managers.{Kept, Handed}
+use Rattle.vch_value.specs.Flight.{Receipt}
+use Rattle.vch_model.specs.declared.entry.Entry.TheVariants as entries
+use Rattle.vch_values.specs.Parts.{KeyParts}
+use Rattle.vch_parts.specs.declared.frame.Frame.{Frame}
+use Rattle.vch_parts.specs.Plain.{Plain, with_frame_at}
+
+-- a frame has a receipt of a key
+abbrev pub receiving : Frame → Key → Receipt → Frame
+receiving f k r = record f { receipt = Some (record { key = k; receipt = r }) }
+
+-- a value that was live is handed out again: the frame has its receipt, and the parts of the key are others
+abbrev pub gave : Plain → ℕ → Frame → Key → Receipt → KeyParts → Plain
+gave c t f k r x = record (with_frame_at c t (Some (receiving f k r))) { keyed = with_key k x c.keyed }
+
+-- a fresh value is handed out: the history has its Made entry too
+abbrev pub gave_fresh : Plain → ℕ → Frame → Key → Receipt → KeyParts → Value → Plain
+gave_fresh c t f k r x v = record (gave c t f k r x) {
+  history = c.history ++ entries.Made (number_of k) v ∷ [];
+  spare = c.spare - 1;
+}
+
+-- at the receipt's key, the manager handed out a value, and the entries have the handles that they had
+pub record HandsOut (r : Receipt) (fresh : Bool) (v : Value) (old new : KeyParts) : Type 0 where
+  pub slots : new.entries.slots ≡ old.entries.slots
+  pub handed : Handed old.kept.slots old.kept.free v (Ok (got.Value r.handle fresh r.persist)) new.kept.slots new.kept.free
+  pub rest : new.kept ≡ record old.kept { slots = new.kept.slots; free = new.kept.free }
