@@ -3,3 +3,5 @@ pub mod Receives
 pub mod MadeLive
 pub mod FreshLive
 pub mod Gives
+pub mod GivesNone
+pub mod Roomier

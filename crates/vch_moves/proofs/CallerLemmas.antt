@@ -18,10 +18,9 @@ pub use Rattle.vch_moves.proofs.working.Given.{managed_differ}
 pub use Rattle.vch_moves.proofs.happening.Running.{stands_of, ties_of, from_state, next_in, event_by, may_follow}
 pub use Rattle.vch_moves.proofs.happening.Tasks.{same_begun, free_of, at_work_of, forms_call, forms_of, idle_of}
 pub use Rattle.vch_moves.proofs.happening.Beginning.{begin_next, begin_event, begin_happens, create_empty, create_long, create_framed, send_nowhere, send_full, send_bare, send_unknown, send_framed, recv_nothing, recv_bare, recv_framed}
-pub use Rattle.vch_moves.proofs.happening.Rooms.{entry_room}
+pub use Rattle.vch_moves.proofs.happening.Rooms.{entry_room, begin_room, make_room, place_create_room, place_recv_room, place_send_room, work_room, exit_room}
 pub use Rattle.vch_moves.proofs.happening.Calls.{is_own, AtCall, at_call, at_call_of, own_event}
 pub use Rattle.vch_moves.proofs.happening.Ends.{is_call, call_happens, make_event, place_event, work_is_done, exit_event, exit_name, exit_message, exit_left, first_message, no_message, full_queue, room_in_queue, send_too_many, send_wanting, send_placed, send_inside}
-pub use Rattle.vch_moves.proofs.happening.Rooms.{begin_room, make_room, place_create_room, place_recv_room, place_send_room, work_room, exit_room}
 pub use Rattle.vch_moves.proofs.happening.Openings.{is_answered, counts_nothing, refused_nothing, answers_at_once, create_opens, exit_opens, drop_at_once, send_knows_none, send_copies, send_finds_full, send_queues, recv_finds_none, recv_takes, recv_keys, recv_copies}
 pub use Rattle.vch_moves.proofs.happening.Closings.{refuses, make_wants, making_room, create_room, create_wants, create_places, send_to, send_room, send_times_out, send_wants, send_places, recv_room, recv_wants, recv_places, recv_there, exit_has_room, exit_forms, exit_gives_name, exit_gives_message, exit_ends}
 pub use Rattle.vch_moves.proofs.happening.Altering.{copy_alters, remove_alters, remove_same_alters}
@@ -29,3 +28,4 @@ pub use Rattle.vch_moves.proofs.happening.Recording.{named_voucher, unnamed_vouc
 pub use Rattle.vch_moves.proofs.happening.Putting.{own_desk, own_work, all_desks, desks_then, put_same, stepped_is}
 pub use Rattle.vch_moves.proofs.happening.Opened.{begun_few, begun_range, stepped_begun, opened_is}
 pub use Rattle.vch_moves.proofs.happening.Valued.{formed_is, copied_is}
+pub use Rattle.vch_moves.proofs.stating.Forming.{vouchers_form}
