@@ -17,7 +17,9 @@
 #![tactic(auto)]
 
 mod ending;
+mod question;
 mod refusing;
 
 pub use ending::{end_frame, let_all_go, word_of};
+pub use question::{Question, content_at};
 pub use refusing::{out_of_memory, refuse};

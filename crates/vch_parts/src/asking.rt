@@ -1,8 +1,9 @@
 ghost use Rattle.std.specs.Prelude.{◌≡◌, ◌↔◌, [], IsTrue};
 ghost use Rattle.vch_base.specs.Keys.{managed};
-ghost use Rattle.vch_machine.specs.Making.{tail_keys};
+ghost use Rattle.vch_machine.specs.Making.{tail_keys, head_key, keys_left};
 
 use std::marker::Model;
+use vch_base::Key;
 
 /// Keys that are still to be asked, in rising order: each key is marked or not.
 #[derive(Drop)]
@@ -53,6 +54,34 @@ impl Keys {
         ensures { IsTrue result ↔ (self.now ≡ []) }
     {
         !(self.importance || self.bank || self.user || self.test)
+    }
+
+    /// The first key, or none where there is no key.
+    pub fn first(&self) -> Option<Key>
+        ensures { result ≡ head_key self.now }
+    {
+        if self.importance {
+            Some(Key::Importance)
+        } else if self.bank {
+            Some(Key::Bank)
+        } else if self.user {
+            Some(Key::User)
+        } else if self.test {
+            Some(Key::Test)
+        } else {
+            None
+        }
+    }
+
+    /// The first key of those that a record which redeems all keys has still to ask: the first managed key of the version where
+    /// the record is not under way.
+    pub fn next_of_all(&self, version: u32) -> Option<Key>
+        ensures { result ≡ head_key (keys_left version self.now) }
+    {
+        if self.is_empty() {
+            return Keys::managed(version).first();
+        }
+        self.first()
     }
 
     /// Takes the first key away, if there is one.
