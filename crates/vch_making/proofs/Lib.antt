@@ -1,2 +1,3 @@
 pub mod refusals
 pub mod giving
+pub mod asking
