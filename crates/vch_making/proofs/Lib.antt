@@ -1,3 +1,3 @@
 pub mod refusals
 pub mod giving
-pub mod asking
+pub mod questions

@@ -5,3 +5,4 @@ pub mod FreshLive
 pub mod Gives
 pub mod GivesNone
 pub mod Roomier
+pub mod Happens

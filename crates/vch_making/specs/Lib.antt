@@ -1,3 +1,4 @@
 pub mod Refused
 pub mod Given
 pub mod Asked
+pub mod Answers

@@ -16,7 +16,10 @@
 //! ```
 #![tactic(auto)]
 
+mod asking;
 mod ending;
+mod flying;
+mod making;
 mod question;
 mod refusing;
 

@@ -110,14 +110,13 @@ fn next_question(keys: &Keys, command: u32, forming: &Indices) -> Option<Questio
 }
 
 /// What a call asks, with the voucher that it forms.
-fn call_question(
+pub fn call_question(
     parts: &Parts,
     task: u32,
     call: &Call,
     frame: &Frame,
     forming: &Indices,
 ) -> Option<Question>
-    requires version { (parts.now.scenario.version ≡ 1) ⊎ (parts.now.scenario.version ≡ 2) }
     requires task { (1 ≤ task) × (task ≤ length parts.now.vouchers) }
     ensures { result ≡ asked.question_by parts.now.scenario.version (desk parts.now.vouchers task).names frame.now.at frame.now.keys forming.now (Some call.now) }
 {

@@ -18,3 +18,4 @@ pub use Rattle.vch_parts.proofs.keys.KeyCases.{turned, other_with, each_key, oth
 pub use Rattle.vch_parts.proofs.keys.Maps.{at_key, map_with}
 pub use Rattle.vch_parts.proofs.phases.PhaseEnds.{reached_phase}
 pub use Rattle.vch_parts.proofs.starting.NewParts.{new_parts, new_reached, new_stands, limits_are}
+pub use Rattle.vch_parts.proofs.framing.Put.{parts_range}

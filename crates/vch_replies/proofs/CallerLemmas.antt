@@ -9,3 +9,4 @@ pub use Rattle.vch_replies.proofs.calls.Charged.{charge_reply}
 pub use Rattle.vch_replies.proofs.calls.Sent.{drop_reply, send_reply, recv_reply, create_none, create_many}
 pub use Rattle.vch_replies.proofs.left.Recounted.{extern_left}
 pub use Rattle.vch_replies.proofs.left.Paid.{charge_left}
+pub use Rattle.vch_replies.proofs.calls.Alive.{values_live}

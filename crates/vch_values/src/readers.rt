@@ -1,4 +1,4 @@
-ghost use Rattle.std.specs.Prelude.{◌≡◌, ◌≢◌, ◌<◌, ◌+◌, ◌^◌, ◌++◌, ◌↔◌, ◌≤◌, ℕ, Some, IfErr, IsErr, IsSome, OnErr, OnOk, length, slice_set};
+ghost use Rattle.std.specs.Prelude.{◌≡◌, ◌≢◌, ◌<◌, ◌+◌, ◌^◌, ◌++◌, ◌↔◌, ◌≤◌, ℕ, Some, IfErr, IfOk, IsErr, IsSome, OnErr, OnOk, length, slice_set};
 ghost use Rattle.vch_base.specs.declared.codes.TheConstants.{KERN_INVALID_ARGUMENT};
 ghost use Rattle.vch_base.specs.declared.key.Key.TheVariants as keys;
 ghost use Rattle.vch_base.specs.declared.value.Value.TheVariants as values;
@@ -89,6 +89,13 @@ impl Values {
             Key::User => self.user.extract(handle, out),
             Key::Test => self.test.extract(handle, out),
         }
+    }
+
+    /// A content as a value of user data or of tests. The one error is out of memory.
+    pub fn user_value(&self, content: &[u8]) -> Result<Value, NoMemory>
+        ensures { IfOk result (λ made. made ≡ values.User content.now) }
+    {
+        self.user.value(content)
     }
 
     /// The bytes of a value of user data or of tests, without a copy. Constant time.

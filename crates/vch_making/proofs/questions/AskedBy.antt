@@ -31,7 +31,7 @@ use Rattle.vch_moves.specs.Moments.{Forms}
 use Rattle.vch_moves.proofs.CallerLemmas.{AtCall}
 use Rattle.vch_making.specs.declared.question.Question.{Question}
 use Rattle.vch_making.specs.Asked.{question_by, content_by}
-use Rattle.vch_making.proofs.asking.Asks.{Said, asked_create, sends, receives_importance, receives_bank}
+use Rattle.vch_making.proofs.questions.Asks.{Said, asked_create, sends, receives_importance, receives_bank}
 
 -- The keys of a transfer.
 

@@ -100,7 +100,7 @@ module _ (sc : Scenario) (c : Plain) (m : Machine) (s : StandsFor sc c m) where
       by false true e r = absurd (cc)
       by false false e r = r
 
-  previous_map : (names : List Named) (twins : List machine.Named) (u : Indices) (w : Handles) (n : ℕ) → Pairwise (IsName c.keyed) names twins → IsMap c.keyed u w
+  pub previous_map : (names : List Named) (twins : List machine.Named) (u : Indices) (w : Handles) (n : ℕ) → Pairwise (IsName c.keyed) names twins → IsMap c.keyed u w
       → IsMap c.keyed (asked.previous_of names u n) (making.previous_of twins w n)
   previous_map names twins u w n p map = by (n == 0) (voucher_of names n) (handles_of twins n) (named names twins n p)
     where

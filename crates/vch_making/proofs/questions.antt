@@ -1,0 +1,5 @@
+pub mod Asks
+pub mod AskedBy
+pub mod Flights
+pub mod Bounds
+pub mod Previous
