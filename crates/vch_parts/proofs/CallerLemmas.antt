@@ -7,7 +7,8 @@ pub use Rattle.vch_parts.proofs.framing.Closing.{Formless, closed_frames, holds_
 pub use Rattle.vch_parts.proofs.framing.FrameParts.{frames_of, formless_of, no_claim, no_receipt, twin}
 pub use Rattle.vch_parts.proofs.framing.Glue.{in_parts, twin_of, from_end, Happens, event_of_run}
 pub use Rattle.vch_parts.proofs.framing.NextKinds.{part_at, desk_inside, next_agrees, is_next}
-pub use Rattle.vch_parts.proofs.framing.OfParts.{numbers_of, task_inside, own_frame, own_begun, tasks_then, entries_then, kept_then}
+pub use Rattle.vch_parts.proofs.framing.OfParts.{numbers_of, range, task_inside, own_frame, own_begun, tasks_then, entries_then, kept_then}
+pub use Rattle.vch_parts.proofs.framing.Put.{frame_at}
 pub use Rattle.vch_parts.proofs.framing.Replaced.{framed, pictured, picture_by, held_before, held_behind, receipts_before, receipts_behind, claims_before, claims_behind, picture_now, picture_then, picture_same, shape_then}
 pub use Rattle.vch_parts.proofs.framing.Sides.{even_of, as_many_parts, as_many_desks, side_at, set_sides, set_desk, set_work, desks_again}
 pub use Rattle.vch_parts.proofs.holders.Held.{held_counted}

@@ -1,0 +1,2 @@
+pub mod answered
+pub mod CallerLemmas
