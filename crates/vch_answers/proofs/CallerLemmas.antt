@@ -1,2 +1,3 @@
 -- What other crates cite of the lemmas of this one.
 pub use Rattle.vch_answers.proofs.answered.Begun.{begun_few, begun_then}
+pub use Rattle.vch_answers.proofs.answered.Answered.{Moment, moment, begin_follows, answer_room, answer_follows}

@@ -1,5 +1,8 @@
 -- A call that is answered as it begins.
-use Rattle.std.specs.Prelude.{◌≡◌, ℕ}
+use Rattle.std.specs.Prelude.{◌≡◌, ℕ, ◌+◌, nat_lt, true, Some, None}
+use Rattle.vch_model.specs.Lines.{lines_until}
+use Rattle.vch_machine.specs.Next.{nth_call}
+use Rattle.vch_parts.specs.Framed.{frame_of, begun_of}
 use Rattle.vch_model.specs.Words.{word_of}
 use Rattle.vch_model.specs.declared.call.Call.{Call}
 use Rattle.vch_model.specs.declared.call.Word.{Word}
@@ -12,3 +15,9 @@ use Rattle.vch_moves.specs.Steps.{answered_first}
 pub record Answers (t : ℕ) (word : Word) (reply : Reply) (old new : Parts) : Type 0 where
   pub scenario : new.scenario ≡ old.scenario
   pub plain : (call : Call) → word_of call ≡ word → plain_of new ≡ answered_first (plain_of old) t call reply
+
+-- a task that has no call under way begins this one, of the phases so far
+pub record Begins (p : Parts) (t : ℕ) (call : Call) : Type 0 where
+  pub free : frame_of p.frames t ≡ None
+  pub call_is : nth_call p.scenario t (begun_of p.frames t + 1) ≡ Some call
+  pub waits : nat_lt (begun_of p.frames t) (lines_until p.scenario (p.phase + 1) t) ≡ true

@@ -29,3 +29,7 @@ pub use Rattle.vch_moves.proofs.happening.Putting.{own_desk, own_work, all_desks
 pub use Rattle.vch_moves.proofs.happening.Opened.{begun_few, begun_range, stepped_begun, opened_is}
 pub use Rattle.vch_moves.proofs.happening.Valued.{formed_is, copied_is}
 pub use Rattle.vch_moves.proofs.stating.Forming.{vouchers_form}
+pub use Rattle.vch_moves.proofs.stating.Begins.{refusals_stand, creates_begin, exits_begin, copies_begin, answers_begin, takings_begin, queueings_begin}
+pub use Rattle.vch_moves.proofs.desks.Names.{voucher_is}
+pub use Rattle.vch_moves.proofs.holding.InTasks.{own_known}
+pub use Rattle.vch_moves.proofs.keeping.OneTask.{vouchers_stay}
