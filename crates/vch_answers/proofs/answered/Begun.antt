@@ -1,6 +1,5 @@
 -- From what the code of an answer does to the parts as plain data.
-use Rattle.std.proofs.Common.{◌≡◌, ℕ, zero, suc, ◌+◌, ◌-◌, ◌<◌, ◌≤◌, true, List, [], ◌∷◌, ◌++◌, refl, arith, sym, ap, ◌∙◌, length, get_or}
-use Rattle.std.proofs.Math.ListN.{set}
+use Rattle.std.proofs.Common.{◌≡◌, ℕ, ◌+◌, ◌-◌, ◌<◌, ◌≤◌, true, List, [], ◌∷◌, ◌++◌, refl, arith, sym, ap, ◌∙◌, length}
 use Rattle.vch_base.specs.Tasks.{at_task, set_task}
 use Rattle.vch_vouchers.specs.Desks.{Desk}
 use Rattle.vch_bounds.proofs.CallerLemmas.{one_of_all}
@@ -15,10 +14,10 @@ use Rattle.vch_model.specs.declared.entry.Reply.{Reply}
 use Rattle.vch_machine.specs.State.{Machine, idle, tasked}
 use Rattle.vch_parts.specs.declared.frames.Working.{Working}
 use Rattle.vch_parts.specs.declared.parts.Parts.{Parts}
-use Rattle.vch_parts.specs.Framed.{begun_of, with_begun_of, resting}
+use Rattle.vch_parts.specs.Framed.{begun_of, with_begun_of, working_of}
 use Rattle.vch_parts.specs.Plain.{Plain, Part, part_of, idle_part}
-use Rattle.vch_parts.specs.Reached.{plain_of, part_in, parts_in, Reached}
-use Rattle.vch_parts.proofs.CallerLemmas.{numbers_of, in_parts, own_begun, range, frame_at}
+use Rattle.vch_parts.specs.Reached.{plain_of, parts_in, Reached}
+use Rattle.vch_parts.proofs.CallerLemmas.{numbers_of, in_parts, own_begun, range, set_work, side_at}
 use Rattle.vch_moves.specs.Steps.{answered_first, begun_one}
 use Rattle.vch_answers.specs.Answered.{Answers}
 
@@ -30,20 +29,12 @@ begun_few p t reached task = numbers_of p _ reached (λ m s ties n.
     let a : (tasked m t).begun ≤ in_all begun_in m = one_of_all begun_in m.tasks t idle refl in
     let b = n.begun in omega (arith, own, a, b))
 
-begun_at : (ds : List Desk) (fs : List Working) (i : ℕ) (w : Working) → i < length (parts_in ds fs) → w.frame ≡ (get_or fs i resting).frame
-    → parts_in ds (set fs i w) ≡ set (parts_in ds fs) i (record (get_or (parts_in ds fs) i idle_part) { begun = w.begun })
-begun_at [] fs i w l e = absurd (omega (arith, l))
-begun_at (d ∷ ds) [] i w l e = absurd (omega (arith, l))
-begun_at (d ∷ ds) (x ∷ fs) zero w l e = ap (λ f. record (part_in d x) { begun = w.begun; frame = f } ∷ parts_in ds fs) e
-begun_at (d ∷ ds) (x ∷ fs) (suc i) w l e = ap (λ ps. part_in d x ∷ ps) (begun_at ds fs i w (omega (arith, l)) e)
-
 -- one call more was begun
 pub begun_then : (ds : List Desk) (fs : List Working) (t : ℕ) → 0 < t → t - 1 < length (parts_in ds fs)
     → parts_in ds (with_begun_of fs t) ≡ set_task (parts_in ds fs) t (begun_one (at_task (parts_in ds fs) t idle_part))
-begun_then ds fs zero p l = absurd (omega (arith, p))
-begun_then ds fs (suc i) p l =
-    begun_at ds fs i (record (get_or fs i resting) { begun = (get_or fs i resting).begun + 1 }) (omega (arith, l)) refl
-    ∙ ap (λ n. set (parts_in ds fs) i (record (get_or (parts_in ds fs) i idle_part) { begun = n + 1 })) (sym (frame_at ds fs (suc i) p l).1)
+begun_then ds fs t p l =
+    set_work ds fs t (record (working_of fs t) { begun = begun_of fs t + 1 }) p
+    ∙ ap (λ (x : Part). set_task (parts_in ds fs) t (begun_one x)) (sym (side_at ds fs t p l))
 
 plain_is : (x : Plain) (d e : List Part) (f g : List Entry) (i j : ℕ) → d ≡ e → f ≡ g → i ≡ j
     → record x { tasks = d; history = f; spare = i } ≡ record x { tasks = e; history = g; spare = j }
