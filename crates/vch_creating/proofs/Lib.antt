@@ -1,1 +1,2 @@
 pub mod beginning
+pub mod placed

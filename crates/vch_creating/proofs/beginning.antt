@@ -1,1 +1,2 @@
 pub mod CreateBegins
+pub mod DropBegins

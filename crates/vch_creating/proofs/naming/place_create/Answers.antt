@@ -1,0 +1,10 @@
+use Rattle.std.proofs.Common.{◌∙◌, sym}
+use Rattle.vch_parts.proofs.CallerLemmas.{task_inside}
+use Rattle.vch_creating.proofs.placed.CreatePlaces.{forms_some}
+use Rattle.vch_creating.proofs.naming.place_create.Goals as goal
+
+pub forming-requires : goal.forming-requires
+forming-requires c = record { task = task_inside c.args.parts.now c.args.task c.requires.reached c.requires.task }
+
+pub returns-in_default : goal.returns-in_default
+returns-in_default c = absurd (forms_some c.args.parts.now c.args.task c.requires.reached c.requires.task c.requires.next c.requires.call (sym c.forming.ensures ∙ c.in_default.is))
