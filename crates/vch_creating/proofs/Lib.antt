@@ -1,2 +1,3 @@
+pub mod forming
 pub mod beginning
 pub mod placed

@@ -1,1 +1,4 @@
+pub mod Changing
+pub mod Reading
+pub mod Carried
 pub mod Beginnings

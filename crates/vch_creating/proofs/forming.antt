@@ -1,0 +1,9 @@
+pub mod Reads
+pub mod Doing
+pub mod Deeds
+pub mod Records
+pub mod Naming
+pub mod Counts
+pub mod Codes
+pub mod Next
+pub mod Follows
