@@ -30,7 +30,12 @@ pub fn begin_assertions(parts: &mut Parts, task: u32)
 {
     let held = parts.values.held(task);
     let out = parts.values.out(task);
-    answer(parts, task, Word::Assertions, Reply::Assertions { held, out });
+    answer(
+        parts,
+        task,
+        Word::Assertions,
+        Reply::Assertions { held, out },
+    );
 }
 
 /// Begin of a `live`: the call is answered with how many different vouchers names and messages have, and how many values are

@@ -33,3 +33,6 @@ pub use Rattle.vch_moves.proofs.stating.Begins.{refusals_stand, creates_begin, e
 pub use Rattle.vch_moves.proofs.desks.Names.{voucher_is}
 pub use Rattle.vch_moves.proofs.holding.InTasks.{own_known}
 pub use Rattle.vch_moves.proofs.keeping.OneTask.{vouchers_stay}
+pub use Rattle.vch_moves.proofs.stating.Places.{creates_place, moving_sends_place, sends_place, recvs_place}
+pub use Rattle.vch_moves.proofs.stating.Leaves.{drops_leave, names_leave, messages_leave, tasks_leave}
+pub use Rattle.vch_moves.proofs.sharing.Among.{first_known, known_held}

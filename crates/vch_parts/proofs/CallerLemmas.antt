@@ -8,7 +8,7 @@ pub use Rattle.vch_parts.proofs.framing.FrameParts.{frames_of, formless_of, no_c
 pub use Rattle.vch_parts.proofs.framing.Glue.{in_parts, twin_of, from_end, Happens, event_of_run}
 pub use Rattle.vch_parts.proofs.framing.NextKinds.{part_at, desk_inside, next_agrees, is_next}
 pub use Rattle.vch_parts.proofs.framing.OfParts.{numbers_of, range, task_inside, own_frame, own_begun, tasks_then, entries_then, kept_then}
-pub use Rattle.vch_parts.proofs.framing.Put.{frame_at}
+pub use Rattle.vch_parts.proofs.framing.Put.{frame_at, parts_range}
 pub use Rattle.vch_parts.proofs.framing.Replaced.{framed, pictured, picture_by, held_before, held_behind, receipts_before, receipts_behind, claims_before, claims_behind, picture_now, picture_then, picture_same, shape_then}
 pub use Rattle.vch_parts.proofs.framing.Sides.{even_of, as_many_parts, as_many_desks, side_at, set_sides, set_desk, set_work, desks_again}
 pub use Rattle.vch_parts.proofs.holders.Held.{held_counted}
@@ -19,4 +19,4 @@ pub use Rattle.vch_parts.proofs.keys.KeyCases.{turned, other_with, each_key, oth
 pub use Rattle.vch_parts.proofs.keys.Maps.{at_key, map_with}
 pub use Rattle.vch_parts.proofs.phases.PhaseEnds.{reached_phase}
 pub use Rattle.vch_parts.proofs.starting.NewParts.{new_parts, new_reached, new_stands, limits_are}
-pub use Rattle.vch_parts.proofs.framing.Put.{parts_range}
+pub use Rattle.vch_parts.proofs.refers.RefersNeeds.{refer_counts}

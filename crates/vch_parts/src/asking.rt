@@ -1,6 +1,7 @@
-ghost use Rattle.std.specs.Prelude.{◌≡◌, ◌↔◌, [], IsTrue};
+ghost use Rattle.std.specs.Prelude.{◌≡◌, ◌↔◌, [], IsTrue, false};
 ghost use Rattle.vch_base.specs.Keys.{managed};
 ghost use Rattle.vch_machine.specs.Making.{tail_keys, head_key, keys_left};
+ghost use Rattle.vch_parts.specs.Asking.{marked};
 
 use std::marker::Model;
 use vch_base::Key;
@@ -32,6 +33,18 @@ impl Keys {
         Keys {
             importance: false,
             bank: false,
+            user: false,
+            test: false,
+        }
+    }
+
+    /// The key of importance, that of the bank, both or neither.
+    pub fn of(importance: bool, bank: bool) -> Keys
+        ensures { result ≡ marked importance bank false false }
+    {
+        Keys {
+            importance,
+            bank,
             user: false,
             test: false,
         }

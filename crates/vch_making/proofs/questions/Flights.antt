@@ -1,5 +1,5 @@
 -- The receipts of the frames are those of the tasks.
-use Rattle.std.proofs.Common.{◌≡◌, ℕ, zero, suc, ◌+◌, ◌<◌, ◌≤◌, Bool, true, false, cond, List, [], ◌∷◌, ◌++◌, refl, arith, ap, sym, ◌∙◌, length, take, get_or, Option, Some, None, length-append}
+use Rattle.std.proofs.Common.{◌≡◌, ℕ, zero, suc, ◌+◌, ◌<◌, ◌≤◌, ◌==◌, Bool, true, false, cond, List, [], ◌∷◌, ◌++◌, refl, arith, ap, sym, ◌∙◌, length, take, get_or, Option, Some, None, length-append}
 use Rattle.std.specs.List.{flat_map}
 use Rattle.vch_base.specs.declared.key.Key.{Key}
 use Rattle.vch_base.specs.Tasks.{at_task}
@@ -11,7 +11,7 @@ use Rattle.vch_parts.specs.Plain.{Part}
 use Rattle.vch_parts.specs.Framed.{resting}
 use Rattle.vch_parts.specs.Pictures.{receipts_of, receipt_of, part_expects}
 use Rattle.vch_base.specs.Keys.{same_key}
-use Rattle.vch_parts.specs.Reached.{parts_in}
+use Rattle.vch_parts.specs.Reached.{beside, parts_in}
 use Rattle.vch_making.specs.Answers.{receipts_in}
 
 one_at_most : (k : Key) (o : Option Frame) → length (receipts_of k o) ≤ 1
@@ -50,10 +50,17 @@ flying_step k xs i count x n e q l c few =
     (omega (arith, c, m, a, b), omega (arith, few, m, d))
 
 -- each part has the receipts of its frame
+beside_receipts : (k : Key) (ss : List Desk) (fs : List Working) → flat_map (part_expects k) (beside ss fs) ≡ receipts_in k (take (length (beside ss fs)) fs)
+beside_receipts k [] fs = refl
+beside_receipts k (s ∷ ss) [] = refl
+beside_receipts k (s ∷ ss) (x ∷ fs) = ap (λ rs. receipts_of k x.frame ++ rs) (beside_receipts k ss fs)
+
 pub parts_receipts : (k : Key) (ss : List Desk) (fs : List Working) → flat_map (part_expects k) (parts_in ss fs) ≡ receipts_in k (take (length (parts_in ss fs)) fs)
-parts_receipts k [] fs = refl
-parts_receipts k (s ∷ ss) [] = refl
-parts_receipts k (s ∷ ss) (x ∷ fs) = ap (λ rs. receipts_of k x.frame ++ rs) (parts_receipts k ss fs)
+parts_receipts k ss fs = by (length ss == length fs)
+  where
+    by : (b : Bool) → flat_map (part_expects k) (cond b (beside ss fs) []) ≡ receipts_in k (take (length (cond b (beside ss fs) [])) fs)
+    by true = beside_receipts k ss fs
+    by false = refl
 
 -- each part has one receipt at most
 pub expected_few : (k : Key) (xs : List Part) → length (flat_map (part_expects k) xs) ≤ length xs

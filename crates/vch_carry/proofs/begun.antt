@@ -1,0 +1,4 @@
+pub mod Answered
+pub mod Copied
+pub mod SendBegins
+pub mod RecvBegins

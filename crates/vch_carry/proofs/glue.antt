@@ -1,0 +1,5 @@
+pub mod Open
+pub mod Runs
+pub mod Places
+pub mod Steps
+pub mod Begun

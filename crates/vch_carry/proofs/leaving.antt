@@ -1,0 +1,2 @@
+pub mod ExitBegins
+pub mod ExitWorks
