@@ -1,9 +1,11 @@
 -- What bounds a state of a run: by the calls that were begun, and in numbers.
-use Rattle.std.specs.Prelude.{ℕ, ◌+◌, ◌*◌, ◌<◌, ◌≤◌, ◌^◌, length}
-use Rattle.std.specs.List.{sum_by}
+use Rattle.std.specs.Prelude.{ℕ, ◌+◌, ◌*◌, ◌<◌, ◌≤◌, ◌^◌, List, length}
+use Rattle.std.specs.List.{sum_by, AllByRecursion}
 use Rattle.vch_base.specs.declared.key.Key.{Key}
 use Rattle.vch_base.specs.declared.limits.TheConstants.{MOST_TASKS, MOST_PHASES}
 use Rattle.vch_base.specs.Keyed.{of_key}
+use Rattle.vch_model.specs.Grammar.{IsSmall}
+use Rattle.vch_model.specs.declared.call.Line.{Line}
 use Rattle.vch_model.specs.declared.lists.Scenario.{Scenario}
 use Rattle.vch_machine.specs.State.{Named, Tasked, Machine, tasked}
 use Rattle.vch_script.specs.Places.{AreOfTasks}
@@ -16,12 +18,17 @@ use Rattle.vch_bounds.specs.Spent.{begun_in, flying_in, in_all}
 abbrev pub most_core_calls : ℕ
 most_core_calls = 1048576
 
--- at most so many tasks, phases and calls, and each line is of a task
+-- each number of each call is small
+abbrev pub AreSmall : List (List Line) → Type 0
+AreSmall phases = AllByRecursion (λ lines. AllByRecursion (λ (l : Line). IsSmall l.call) lines) phases
+
+-- at most so many tasks, phases and calls; each line is of a task, and its numbers are small
 pub record Limited (sc : Scenario) : Type 0 where
   pub tasks : length sc.flags ≤ MOST_TASKS
   pub phases : length sc.phases ≤ MOST_PHASES
   pub calls : calls_of sc ≤ most_core_calls
   pub lines : AreOfTasks (length sc.flags) sc.phases
+  pub numbers : AreSmall sc.phases
 
 -- 1 where a task has a call that is not answered
 abbrev pub open_in : ℕ → Tasked → ℕ

@@ -5,3 +5,4 @@ pub mod Begun
 pub mod Noting
 pub mod Counted
 pub mod Charged
+pub mod Small

@@ -60,7 +60,6 @@ pub fn begin_charge(parts: &mut Parts, task: u32, name: u32, n: u32)
     requires reached { Reached parts.old }
     requires task { IsTrue (is_task parts.old.scenario task) }
     requires begins { Begins parts.old task (calls.Charge name n) }
-    requires room { total_of parts.old.values.bank.kept + n < 2 ^ 128 }
     ensures { MayFollow kinds.Begin task parts.old parts.new }
 {
     match handle_named(parts, task, name, Key::Bank) {

@@ -51,3 +51,4 @@ pub use Rattle.vch_legal.proofs.spots.Shapes.{Shape, shape_of}
 pub use Rattle.vch_legal.proofs.steps.Standing.{Step}
 pub use Rattle.vch_legal.proofs.store.StoreLegal.{legal_store, call_live, answered_line}
 pub use Rattle.vch_legal.proofs.store.StoreSteps.{StoreFits, AliveGood, AllGood, equals, none_equal}
+pub use Rattle.vch_legal.proofs.sums.ReportSums.{added, credited, external_few, due_few, ledger_few}

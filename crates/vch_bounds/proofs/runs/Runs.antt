@@ -2,7 +2,7 @@
 use Rattle.std.proofs.Common.{◌≡◌, ℕ, suc, ◌+◌, ◌*◌, ◌<◌, ◌≤◌, Bool, cond, List, [], ◌∷◌, refl, true, false, ◌&&◌, arith, sym, ap, ◌∙◌, subst, length, map, get_or, Some, None, Option}
 use Rattle.std.proofs.lemmas.List.{length-map}
 use Rattle.std.specs.Prelude.{is_some, nat_lt, nat_le}
-use Rattle.std.specs.List.{filter, sum_by}
+use Rattle.std.specs.List.{filter, sum_by, AllByRecursion}
 use Rattle.std.proofs.lemmas.List.Sums.{sum_by-cons}
 use Rattle.vch_model.specs.Store as store
 use Rattle.vch_model.specs.declared.entry.Entry.{Entry}
@@ -14,13 +14,14 @@ use Rattle.vch_model.specs.declared.call.Call.{Call}
 use Rattle.vch_model.specs.declared.call.Line.{Line}
 use Rattle.vch_machine.specs.State.{Living, Named, Frame, Tasked, Machine, idle, tasked, named_of, message_of, member_of, start}
 use Rattle.vch_machine.specs.Next.{nth_call}
-use Rattle.vch_model.specs.Scenarios.{IsLimited}
+use Rattle.vch_model.specs.Scenarios.{IsLimited, IsIn}
+use Rattle.vch_model.specs.Grammar.{IsSmall}
 use Rattle.vch_script.proofs.CallerLemmas.{of_tasks}
 use Rattle.vch_machine.specs.Schedules.{Move, happens, run, run_from_start}
 use Rattle.vch_legal.specs.Facts.{bit}
 use Rattle.vch_legal.specs.Tie.{Ties, is_answering}
 use Rattle.vch_legal.proofs.CallerLemmas.{lines_of_tasks, all_of_tasks, member_seen, start_stands, happens_stands, reached_stands}
-use Rattle.vch_bounds.specs.Bounded.{Limited, Bounded, InNumbers, open_in, things_in, owned_in}
+use Rattle.vch_bounds.specs.Bounded.{AreSmall, Limited, Bounded, InNumbers, open_in, things_in, owned_in}
 use Rattle.vch_bounds.specs.Owned as owned
 use Rattle.vch_bounds.specs.Rooms.{calls_of, answers_in, Counted}
 use Rattle.vch_bounds.specs.Spent.{Spent, takes_of, flying_of, takes_in, flying_in, begun_in, in_all}
@@ -29,6 +30,14 @@ use Rattle.vch_bounds.proofs.counts.AnsweredLines.{answers_of, answers_in_range}
 use Rattle.vch_bounds.proofs.counts.Rooms.{counted, within}
 use Rattle.vch_bounds.proofs.runs.Steps.{start_spent, move_spent}
 
+lines_small : (version tasks : ℕ) (lines : List Line) → AllByRecursion (IsIn version tasks) lines → AllByRecursion (λ (l : Line). IsSmall l.call) lines
+lines_small version tasks [] h = tt
+lines_small version tasks (l ∷ lines) h = (h.0.2, lines_small version tasks lines h.1)
+
+small_of : (version tasks : ℕ) (phases : List (List Line)) → AllByRecursion (λ lines. AllByRecursion (IsIn version tasks) lines) phases → AreSmall phases
+small_of version tasks [] h = tt
+small_of version tasks (p ∷ phases) h = (lines_small version tasks p h.0, small_of version tasks phases h.1)
+
 -- a scenario within the limits of a text
 pub limited_of : (sc : Scenario) → IsLimited sc → Limited sc
 limited_of sc limited = record {
@@ -36,6 +45,7 @@ limited_of sc limited = record {
   phases = limited.phases;
   calls = let a = limited.calls in omega (arith, a);
   lines = of_tasks sc.version (length sc.flags) sc.phases limited.lines;
+  numbers = small_of sc.version (length sc.flags) sc.phases limited.lines;
 }
 
 -- A run.

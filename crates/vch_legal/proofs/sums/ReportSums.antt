@@ -98,20 +98,21 @@ charge_few s t phase u calls.Assertions account amount small = omega arith
 charge_few s t phase u calls.Live account amount small = omega arith
 charge_few s t phase u calls.Exit account amount small = omega arith
 
-module _ (sc : Scenario) (limited : IsLimited sc) where
+-- of a scenario whose calls all have small numbers
+module _ (sc : Scenario) (small : (t n : ℕ) (l : ℕ × Line) → line_at sc t n ≡ Some l → IsSmall l.1.call) where
   line_count_few : (s : Store) (t k : ℕ) (chain : Value) (count n : ℕ) (o : Option (ℕ × Line)) → line_at sc t k ≡ o
       → count ≤ added n → counted s t chain count o ≤ added (suc n)
   line_count_few s t k chain count n None e h = more n count h
   line_count_few s t k chain count n (Some l) e h =
-      count_few s t l.0 l.1.task l.1.call chain count n (line_fits sc t k l limited e).small h
+      count_few s t l.0 l.1.task l.1.call chain count n (small t k l e) h
 
   line_charge_few : (s : Store) (t k : ℕ) (account : Value) (amount : ℕ) (o : Option (ℕ × Line)) → line_at sc t k ≡ o
       → charged s t account amount o ≤ amount + 4294967295
   line_charge_few s t k account amount None e = omega arith
   line_charge_few s t k account amount (Some l) e =
-      charge_few s t l.0 l.1.task l.1.call account amount (line_fits sc t k l limited e).small
+      charge_few s t l.0 l.1.task l.1.call account amount (small t k l e)
 
-  external_few : (past : List Entry) (chain : Value) → external sc past chain ≤ added (length past)
+  pub external_few : (past : List Entry) (chain : Value) → external sc past chain ≤ added (length past)
   external_few [] chain = omega arith
   external_few (entries.Call t n word reply ∷ past) chain =
       either (λ x. x ≤ added (suc (length past))) (is_done reply) _ _
@@ -128,7 +129,7 @@ module _ (sc : Scenario) (limited : IsLimited sc) where
   charged_then : (n x y : ℕ) → y ≤ x + 4294967295 → x ≤ added n → y ≤ added (suc n)
   charged_then n x y a h = omega (arith, a, h)
 
-  due_few : (past : List Entry) (account : Value) → due sc past account ≤ added (length past)
+  pub due_few : (past : List Entry) (account : Value) → due sc past account ≤ added (length past)
   due_few [] account = omega arith
   due_few (entries.Call t n word reply ∷ past) account =
       either (λ x. x ≤ added (suc (length past))) (is_done reply) _ _
@@ -150,7 +151,7 @@ module _ (sc : Scenario) (limited : IsLimited sc) where
   credit_more : (n x : ℕ) → x ≤ credited n → x ≤ credited (suc n)
   credit_more n x h = omega (arith, h)
 
-  ledger_few : (past : List Entry) (t : ℕ) → length past ≤ 4294967296 → ledger sc past t ≤ credited (length past)
+  pub ledger_few : (past : List Entry) (t : ℕ) → length past ≤ 4294967296 → ledger sc past t ≤ credited (length past)
   ledger_few [] t few = omega arith
   ledger_few (entries.Call u n word reply ∷ past) t few =
       either (λ x. x ≤ credited (suc (length past))) (is_done reply && (u == t)) _ _
@@ -178,6 +179,10 @@ module _ (sc : Scenario) (limited : IsLimited sc) where
   ledger_few (entries.Phase ∷ past) t few =
       credit_more (length past) (ledger sc past t) (ledger_few past t (omega (arith, few)))
 
+module _ (sc : Scenario) (limited : IsLimited sc) where
+  small_line : (t n : ℕ) (l : ℕ × Line) → line_at sc t n ≡ Some l → IsSmall l.1.call
+  small_line t n l e = (line_fits sc t n l limited e).small
+
   -- Assertions.
 
   donates_few : (list : List ℕ) → donates sc list ≤ 1
@@ -189,7 +194,7 @@ module _ (sc : Scenario) (limited : IsLimited sc) where
 
   weight_few : (past : List Entry) (chain : Value) → length past ≤ 4294967296 → weight sc past chain ≤ 18446744073709551617
   weight_few past chain few =
-      let a : external sc past chain ≤ added (length past) = external_few past chain in
+      let a : external sc past chain ≤ added (length past) = external_few sc small_line past chain in
       let b : donates sc (tasks_of chain) ≤ 1 = donates_few (tasks_of chain) in
       omega (arith, a, b, few)
 
@@ -217,7 +222,7 @@ module _ (sc : Scenario) (limited : IsLimited sc) where
   out_fits past t few = weighed past (λ l. first_is t (tasks_of l.value)) few
 
   pub ledger_fits : (past : List Entry) (t : ℕ) → length past ≤ 4294967296 → ledger sc past t < 2 ^ 128
-  ledger_fits past t few = let a : ledger sc past t ≤ credited (length past) = ledger_few past t few in omega (arith, a, few)
+  ledger_fits past t few = let a : ledger sc past t ≤ credited (length past) = ledger_few sc small_line past t few in omega (arith, a, few)
 
   pub totals_fit : (past : List Entry) → length past ≤ 4294967296 → AllByRecursion IsTotal (totals_of sc past)
   totals_fit past few = from 1 sc.flags
