@@ -1,6 +1,9 @@
 //! Calls that carry vouchers from task to task, and out of the last one: `send`, `recv` and `exit`. Beside them stand the calls that
 //! are answered at once with an amount, or change one: `ledger`, `assertions`, `live`, `extern` and `charge`.
 //!
+//! A call that tells an amount leaves all but the history as it was. One that is accepted changes what is due on one value, or one
+//! ledger, in the step that notes its answer, so that each due and each ledger is at every moment what the history adds up.
+//!
 //! A call begins with a copy of the voucher that it is about, so that all its values stay while managers are asked. Where it
 //! ends, the copy goes into a message or a name. `exit` gives up one name or one message an event.
 //!

@@ -1,5 +1,5 @@
 -- A call begins, and its answer is noted with a change of what is due.
-use Rattle.std.proofs.Common.{◌≡◌, ℕ, ◌+◌, ◌-◌, ◌<◌, ◌≤◌, List, [], ◌∷◌, ◌++◌, refl, arith, sym, ap, ◌∙◌, subst, append-nil, None}
+use Rattle.std.proofs.Common.{◌≡◌, ℕ, ◌+◌, ◌-◌, ◌≤◌, List, [], ◌∷◌, ◌++◌, refl, arith, sym, ap, ◌∙◌, subst, append-nil, None}
 use Rattle.vch_base.specs.declared.key.Key.{Key}
 use Rattle.vch_base.specs.Keyed.{Keyed, of_key}
 use Rattle.vch_base.specs.Managers.{count}
@@ -22,7 +22,7 @@ use Rattle.vch_parts.specs.Shape.{IsTask}
 use Rattle.vch_parts.specs.Stands.{StandsFor}
 use Rattle.vch_moves.specs.Known.{known_in}
 use Rattle.vch_moves.specs.Moments.{IsFree}
-use Rattle.vch_moves.specs.Steps.{stepped, machine_begun, begun_one, answered_first, IsIdle}
+use Rattle.vch_moves.specs.Steps.{machine_begun, begun_one, answered_first, IsIdle}
 use Rattle.vch_moves.proofs.CallerLemmas.{OneStep, step_stands, vouchers_stay}
 use Rattle.vch_replies.specs.Left.{AddsUp}
 use Rattle.vch_carry.proofs.amounts.Noted.{SameButDues, noted_stands}

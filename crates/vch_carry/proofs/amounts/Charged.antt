@@ -1,10 +1,9 @@
 -- A charge, as its call begins.
-use Rattle.std.proofs.Common.{◌≡◌, ◌≢◌, ℕ, ◌+◌, ◌<◌, ◌≤◌, Bool, true, false, List, refl, sym, ap, ◌∙◌, subst, Option, Some, None, Result, Ok, Err, ℤ}
+use Rattle.std.proofs.Common.{◌≡◌, ◌≢◌, ℕ, ◌+◌, ◌≤◌, true, false, refl, sym, ap, ◌∙◌, subst, Option, Some, None, Result, Ok, Err, ℤ}
 use Rattle.std.specs.Prelude.{IsSome}
 use Rattle.vch_base.specs.declared.key.Key.{Key}
 use Rattle.vch_base.specs.declared.key.Key.TheVariants as keys
 use Rattle.vch_base.specs.declared.kind.Kind.TheVariants as kinds
-use Rattle.vch_base.specs.declared.places.Live.{Live}
 use Rattle.vch_base.specs.Keyed.{Keyed, of_key}
 use Rattle.vch_base.specs.declared.codes.TheConstants.{KERN_INVALID_ARGUMENT}
 use Rattle.vch_base.specs.Managers.{live_at, value_of, due_at}
@@ -13,7 +12,6 @@ use Rattle.vch_bank.specs.declared.payer.Payer.{Payer}
 use Rattle.vch_bank.specs.declared.payer.Payer.TheVariants as payers
 use Rattle.vch_model.specs.Lines.{is_task}
 use Rattle.vch_model.specs.Replies.{refused}
-use Rattle.vch_model.specs.Words.{word_of}
 use Rattle.vch_model.specs.declared.call.Call.{Call}
 use Rattle.vch_model.specs.declared.call.Call.TheVariants as calls
 use Rattle.vch_model.specs.declared.call.Word.TheVariants as words
@@ -25,13 +23,13 @@ use Rattle.vch_state.specs.Shape.{index_of}
 use Rattle.vch_values.specs.Parts.{KeyParts}
 use Rattle.vch_vouchers.specs.Desks.{Voucher, desk, voucher_of}
 use Rattle.vch_parts.specs.declared.parts.Parts.{Parts}
-use Rattle.vch_parts.specs.Plain.{Plain, part_of}
+use Rattle.vch_parts.specs.Plain.{part_of}
 use Rattle.vch_parts.specs.Reached.{plain_of, Reached, MayFollow}
 use Rattle.vch_parts.specs.Stands.{StandsFor}
 use Rattle.vch_moves.specs.Steps.{machine_begun, answered_first}
 use Rattle.vch_replies.specs.Left.{paid}
 use Rattle.vch_replies.specs.Replied.{paid_by, charge_told}
-use Rattle.vch_replies.specs.Told.{named_by, handle_in, live_in, live_of}
+use Rattle.vch_replies.specs.Told.{handle_in, live_in}
 use Rattle.vch_replies.proofs.CallerLemmas.{charge_reply, charge_left}
 use Rattle.vch_answers.specs.Answered.{Answers, Begins}
 use Rattle.vch_answers.proofs.CallerLemmas.{Moment, begin_follows, answer_room}

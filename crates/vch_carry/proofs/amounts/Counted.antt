@@ -1,5 +1,5 @@
 -- A change of an external count, as its call begins.
-use Rattle.std.proofs.Common.{◌≡◌, ◌≢◌, ℕ, ◌+◌, ◌<◌, ◌≤◌, Bool, true, false, List, refl, sym, ap, ◌∙◌, subst, length, Option, Some, None, Result, Ok, Err, inl, inr, ℤ}
+use Rattle.std.proofs.Common.{◌≡◌, ℕ, ◌+◌, ◌≤◌, Bool, true, false, List, refl, sym, ap, ◌∙◌, subst, Option, Some, None, Result, Ok, Err, inl, inr, ℤ}
 use Rattle.std.proofs.lemmas.Bool.{cases_eq}
 use Rattle.std.proofs.lemmas.List.{get_or-set_same, get_or-set_other}
 use Rattle.std.specs.Prelude.{slice_set, IsSome}
@@ -14,7 +14,6 @@ use Rattle.vch_base.proofs.CallerLemmas.{inside_of}
 use Rattle.vch_importance.specs.Assertions.{counted_by}
 use Rattle.vch_model.specs.Lines.{is_task}
 use Rattle.vch_model.specs.Replies.{refused}
-use Rattle.vch_model.specs.Words.{word_of}
 use Rattle.vch_model.specs.declared.call.Call.{Call}
 use Rattle.vch_model.specs.declared.call.Call.TheVariants as calls
 use Rattle.vch_model.specs.declared.call.Word.TheVariants as words
@@ -26,13 +25,13 @@ use Rattle.vch_state.specs.Shape.{index_of}
 use Rattle.vch_values.specs.Parts.{KeyParts}
 use Rattle.vch_vouchers.specs.Desks.{Voucher, desk, voucher_of}
 use Rattle.vch_parts.specs.declared.parts.Parts.{Parts}
-use Rattle.vch_parts.specs.Plain.{Plain, part_of}
+use Rattle.vch_parts.specs.Plain.{part_of}
 use Rattle.vch_parts.specs.Reached.{plain_of, Reached, MayFollow}
 use Rattle.vch_parts.specs.Stands.{StandsFor}
 use Rattle.vch_moves.specs.Steps.{machine_begun, answered_first}
 use Rattle.vch_replies.specs.Left.{due_set, recounted}
 use Rattle.vch_replies.specs.Replied.{changed, done_or, extern_told}
-use Rattle.vch_replies.specs.Told.{named_by, handle_in, live_in, live_of}
+use Rattle.vch_replies.specs.Told.{handle_in, live_in}
 use Rattle.vch_replies.proofs.CallerLemmas.{extern_reply, extern_left}
 use Rattle.vch_answers.specs.Answered.{Answers, Begins}
 use Rattle.vch_answers.proofs.CallerLemmas.{Moment, begin_follows, answer_room}

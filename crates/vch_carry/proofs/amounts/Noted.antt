@@ -1,11 +1,10 @@
 -- What is due on live values changes, and an entry is noted with which the history adds up so: the parts stand for the state with
 -- the entry.
-use Rattle.std.proofs.Common.{◌≡◌, ℕ, ◌+◌, ◌-◌, ◌<◌, ◌≤◌, Bool, List, [], ◌∷◌, ◌++◌, refl, arith, sym, ap, ◌∙◌, subst, length, reverse, Option, Some, None}
+use Rattle.std.proofs.Common.{◌≡◌, ℕ, ◌+◌, ◌-◌, ◌≤◌, Bool, List, [], ◌∷◌, ◌++◌, refl, arith, sym, ap, ◌∙◌, subst, length, reverse, Option, Some, None}
 use Rattle.std.proofs.lemmas.Grind.{common_steps}
 use Rattle.vch_base.specs.declared.key.Key.{Key}
 use Rattle.vch_base.specs.declared.key.Key.TheVariants as keys
 use Rattle.vch_base.specs.declared.places.Live.{Live}
-use Rattle.vch_base.specs.declared.value.Value.{Value}
 use Rattle.vch_base.specs.Keyed.{Keyed, of_key}
 use Rattle.vch_base.specs.Managers.{Kept, live_at}
 use Rattle.vch_entry.specs.declared.table.Entry as entry
@@ -21,7 +20,6 @@ use Rattle.vch_state.specs.Stands.{IsLiving}
 use Rattle.vch_values.specs.Parts.{KeyParts, asked_in, number_at}
 use Rattle.vch_values.proofs.CallerLemmas.{over_keys}
 use Rattle.vch_parts.specs.Plain.{Plain, part_of}
-use Rattle.vch_parts.specs.Shape.{Shape}
 use Rattle.vch_parts.specs.Pictures.{picture_of}
 use Rattle.vch_parts.specs.Stands.{StandsFor, KeyStands}
 use Rattle.vch_parts.proofs.CallerLemmas.{Keeps, task_stays}

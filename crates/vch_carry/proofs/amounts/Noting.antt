@@ -23,7 +23,7 @@ use Rattle.vch_parts.specs.Stands.{StandsFor}
 use Rattle.vch_parts.proofs.CallerLemmas.{task_inside, own_begun, range}
 use Rattle.vch_moves.specs.Steps.{machine_begun, answered_first}
 use Rattle.vch_moves.proofs.CallerLemmas.{answers_begin}
-use Rattle.vch_answers.specs.Answered.{Answers, Begins}
+use Rattle.vch_answers.specs.Answered.{Begins}
 use Rattle.vch_answers.proofs.CallerLemmas.{Moment, begun_few, begun_then, begin_follows, answer_room}
 use Rattle.vch_carry.specs.Amounts.{Notes}
 

@@ -1,18 +1,16 @@
 -- What was charged in a run of a limited scenario has room for one charge more.
-use Rattle.std.proofs.Common.{◌≡◌, ℕ, zero, suc, ◌+◌, ◌-◌, ◌*◌, ◌<◌, ◌≤◌, ◌^◌, true, List, [], ◌∷◌, refl, arith, sym, ap, ◌∙◌, subst, length, get_or, Option, Some, None}
+use Rattle.std.proofs.Common.{◌≡◌, ℕ, suc, ◌+◌, ◌*◌, ◌<◌, ◌≤◌, ◌^◌, List, [], ◌∷◌, refl, arith, sym, subst, length, get_or, Option, Some, None}
 use Rattle.std.specs.List.{sum, sum_by}
 use Rattle.std.proofs.lemmas.List.Sums.{sum_by-cons}
 use Rattle.vch_base.specs.declared.key.Key.TheVariants as keys
-use Rattle.vch_base.specs.declared.limits.TheConstants.{MOST_TASKS}
 use Rattle.vch_base.specs.declared.places.Live.{Live}
 use Rattle.vch_base.specs.declared.value.Value.{Value}
 use Rattle.vch_base.specs.declared.value.Value.TheVariants as values
-use Rattle.vch_base.specs.Managers.{Kept, live_at, due_of}
-use Rattle.vch_base.specs.Tasks.{at_task}
+use Rattle.vch_base.specs.Managers.{live_at, due_of}
 use Rattle.vch_bank.specs.Bank.{total_of}
 use Rattle.vch_bounds.specs.Bounded.{Limited}
 use Rattle.vch_model.specs.Grammar.{IsSmall}
-use Rattle.vch_model.specs.Lines.{is_task, line_at}
+use Rattle.vch_model.specs.Lines.{line_at}
 use Rattle.vch_model.specs.declared.call.Line.{Line}
 use Rattle.vch_model.specs.declared.entry.Entry.{Entry}
 use Rattle.vch_model.specs.declared.lists.Scenario.{Scenario}

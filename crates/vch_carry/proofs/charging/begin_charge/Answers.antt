@@ -1,4 +1,4 @@
-use Rattle.std.proofs.Common.{arith, ◌≤◌}
+use Rattle.std.proofs.Common.{arith}
 use Rattle.vch_carry.proofs.amounts.Small.{charge_fits}
 use Rattle.vch_carry.proofs.charging.begin_charge.Goals as goal
 

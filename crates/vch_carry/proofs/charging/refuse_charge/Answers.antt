@@ -1,4 +1,4 @@
-use Rattle.std.proofs.Common.{false, subst}
+use Rattle.std.proofs.Common.{false}
 use Rattle.vch_model.specs.declared.call.Call.TheVariants as calls
 use Rattle.vch_model.specs.Replies.{refused}
 use Rattle.vch_answers.proofs.CallerLemmas.{answer_room}
