@@ -120,7 +120,7 @@ fn copy_entry(alloc: Global, entry: &Entry) -> Result<Entry, NoMemory>
 }
 
 /// A copy of a history, with room taken once.
-fn copy_history(alloc: Global, history: &History) -> Result<History, NoMemory>
+pub fn copy_history(alloc: Global, history: &History) -> Result<History, NoMemory>
     requires { AllByRecursion (Making HasTask) history.now.entries }
     ensures same { IfOk result (λ made. made.entries ≡ history.now.entries) }
     ensures bytes { IfOk result (λ made. AllByRecursion IsByteEntry made.entries) }

@@ -1,0 +1,2 @@
+pub mod EachTotal
+pub mod PartReports
