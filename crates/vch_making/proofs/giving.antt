@@ -6,3 +6,4 @@ pub mod Gives
 pub mod GivesNone
 pub mod Roomier
 pub mod Happens
+pub mod Follows

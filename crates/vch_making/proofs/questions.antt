@@ -3,3 +3,4 @@ pub mod AskedBy
 pub mod Flights
 pub mod Bounds
 pub mod Previous
+pub mod Loses

@@ -29,6 +29,8 @@ use Rattle.vch_parts.specs.Pictures.{picture_of, receipts_of}
 use Rattle.vch_parts.specs.Plain.{Indices}
 use Rattle.vch_parts.specs.Reached.{plain_of, Stands}
 use Rattle.vch_making.specs.declared.question.Question.{Question}
+use Rattle.vch_table.specs.Indices.{Bounded, SetsIndex}
+use Rattle.vch_making.specs.Given.{gave_none}
 use Rattle.vch_making.specs.Asked.{question_by, content_by}
 
 -- the receipts of a key that frames have
@@ -96,3 +98,9 @@ pub record NotesMade (k : Key) (h : ℕ) (x : Value) (old new : Parts) : Type 0 
   pub slots : (of_key k new.values).entries ≡ (of_key k old.values).entries
   pub kept : (of_key k new.values).kept ≡ (of_key k old.values).kept
   pub numbers : (of_key k new.values).numbers ≡ slice_set (of_key k old.values).numbers h (length old.history.entries + 1)
+
+-- the voucher that a task forms has lost the key, and its call has moved on
+pub record IsLoss (t : ℕ) (k : Key) (old new : Parts) : Type 0 where
+  pub scenario : new.scenario ≡ old.scenario
+  pub plain : (f : Frame) (u : Indices) (call : Call) → frame_of old.frames t ≡ Some f → f.forming ≡ Some u → nth_call old.scenario t (begun_of old.frames t) ≡ Some call
+      → (u2 : Indices) × Bounded u2 × SetsIndex u u2 (number_of k) None × (plain_of new ≡ gave_none (plain_of old) t f old.scenario.version call k u u2)

@@ -19,6 +19,7 @@
 mod asking;
 mod ending;
 mod flying;
+mod losing;
 mod making;
 mod question;
 mod refusing;
