@@ -7,3 +7,4 @@ pub mod GivesNone
 pub mod Roomier
 pub mod Happens
 pub mod Follows
+pub mod Ends
