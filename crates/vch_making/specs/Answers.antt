@@ -1,5 +1,5 @@
 -- What a manager is asked, what it answers, and the room that is made before.
-use Rattle.std.specs.Prelude.{◌≡◌, ℕ, ◌+◌, ◌*◌, ◌<◌, ◌≤◌, ◌++◌, ◌∷◌, [], slice_set, List, length, Option, Some, None, Result, ℤ}
+use Rattle.std.specs.Prelude.{◌≡◌, ℕ, ◌+◌, ◌<◌, ◌≤◌, ◌++◌, ◌∷◌, [], slice_set, List, length, Option, Some, None, Result, ℤ}
 use Rattle.std.specs.List.{flat_map}
 use Rattle.vch_base.specs.declared.key.Key.{Key}
 use Rattle.vch_base.specs.declared.manager.GetFault.{GetFault}
@@ -19,7 +19,7 @@ use Rattle.vch_model.specs.declared.call.Call.{Call}
 use Rattle.vch_machine.specs.State.{Machine}
 use Rattle.vch_machine.specs.Next.{nth_call}
 use Rattle.vch_bounds.specs.Rooms.{room_of}
-use Rattle.vch_values.specs.Parts.{KeyParts, HasBytes}
+use Rattle.vch_values.specs.Parts.{HasBytes}
 use Rattle.vch_vouchers.specs.Desks.{desk}
 use Rattle.vch_parts.specs.declared.frame.Frame.{Frame}
 use Rattle.vch_parts.specs.declared.frames.Working.{Working}

@@ -1,11 +1,10 @@
 -- What a call under way asks of a manager, by the parts.
-use Rattle.std.specs.Prelude.{ℕ, ◌==◌, if◌then◌else◌, List, [], ◌∷◌, drop, Option, Some, None}
+use Rattle.std.specs.Prelude.{ℕ, ◌==◌, if◌then◌else◌, List, [], drop, Option, Some, None}
 use Rattle.vch_base.specs.declared.commands.TheConstants as commands
 use Rattle.vch_base.specs.declared.key.Key.{Key}
 use Rattle.vch_base.specs.declared.key.TheConstants.{ALL_KEYS}
 use Rattle.vch_base.specs.Keys.{key_of}
 use Rattle.vch_recipe.specs.Recipes.{First, One, first_of}
-use Rattle.vch_recipe.specs.declared.recipe.Recipe.{Recipe}
 use Rattle.vch_model.specs.declared.call.Call.{Call}
 use Rattle.vch_model.specs.declared.call.Call.TheVariants as calls
 use Rattle.vch_machine.specs.Making.{head_key, keys_left}

@@ -1,11 +1,11 @@
 -- What a manager's answer leaves of the parts.
-use Rattle.std.specs.Prelude.{◌≡◌, ℕ, ◌+◌, ◌-◌, ◌<◌, ◌≤◌, ◌∷◌, ◌++◌, [], length, slice_set, Some, Ok, Bool, true, false}
+use Rattle.std.specs.Prelude.{◌≡◌, ℕ, ◌-◌, ◌≤◌, ◌∷◌, ◌++◌, [], Some, Ok, Bool}
 use Rattle.vch_base.specs.declared.key.Key.{Key}
 use Rattle.vch_base.specs.Keys.{number_of}
 use Rattle.vch_base.specs.Keyed.{of_key, with_key}
 use Rattle.vch_base.specs.declared.manager.Got.TheVariants as got
 use Rattle.vch_base.specs.declared.value.Value.{Value}
-use Rattle.vch_base.specs.Managers.{Kept, Handed}
+use Rattle.vch_base.specs.Managers.{Handed}
 use Rattle.vch_value.specs.Flight.{Receipt}
 use Rattle.vch_model.specs.declared.entry.Entry.TheVariants as entries
 use Rattle.vch_model.specs.declared.call.Call.{Call}

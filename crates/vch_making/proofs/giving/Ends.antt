@@ -1,16 +1,12 @@
 -- The event Make where no value is handed out: the call is refused, is out of memory, or loses the key.
-use Rattle.std.proofs.Common.{◌≡◌, ℕ, ◌≤◌, ◌-◌, ◌<◌, true, false, refl, sym, ap, ◌∙◌, subst, length, Option, Some, None}
+use Rattle.std.proofs.Common.{◌≡◌, ℕ, ◌≤◌, true, false, refl, sym, ap, ◌∙◌, subst, Option, Some, None}
 use Rattle.std.specs.Prelude.{Result, Ok, Err, ℤ}
 use Rattle.std.proofs.lemmas.Option.{same_Some}
 use Rattle.vch_base.specs.declared.codes.TheConstants.{KERN_RESOURCE_SHORTAGE}
-use Rattle.vch_base.specs.declared.fault.Code.{Code}
 use Rattle.vch_base.specs.declared.kind.Kind.TheVariants as kinds
-use Rattle.vch_base.specs.declared.manager.GetFault.TheVariants as fault
 use Rattle.vch_base.specs.declared.manager.GetFault.{GetFault}
-use Rattle.vch_base.specs.declared.value.Value.{Value}
 use Rattle.vch_base.specs.Keyed.{of_key}
 use Rattle.vch_value.specs.declared.flight.Made.{Made}
-use Rattle.vch_value.specs.declared.flight.Made.TheVariants as made
 use Rattle.vch_model.specs.Lines.{is_task}
 use Rattle.vch_model.specs.declared.call.Call.{Call}
 use Rattle.vch_machine.specs.Making.{asked_by}
@@ -22,8 +18,8 @@ use Rattle.vch_vouchers.specs.Desks.{desk}
 use Rattle.vch_parts.specs.declared.frame.Frame.{Frame}
 use Rattle.vch_parts.specs.declared.parts.Parts.{Parts}
 use Rattle.vch_parts.specs.Framed.{frame_of, begun_of}
-use Rattle.vch_parts.specs.Plain.{Part, Indices, part_of}
-use Rattle.vch_parts.specs.Reached.{plain_of, parts_in, Reached, Stands, IsNext, MayFollow}
+use Rattle.vch_parts.specs.Plain.{Part, Indices}
+use Rattle.vch_parts.specs.Reached.{plain_of, Reached, Stands, IsNext, MayFollow}
 use Rattle.vch_parts.specs.Stands.{StandsFor}
 use Rattle.vch_parts.proofs.CallerLemmas.{own_frame, own_begun, part_at, Happens}
 use Rattle.vch_moves.specs.Moments.{Forms}
@@ -31,12 +27,10 @@ use Rattle.vch_moves.specs.Steps.{refused_call}
 use Rattle.vch_moves.proofs.CallerLemmas.{AtCall, at_call_of, forms_of, from_state, next_in, stands_of, ties_of, may_follow, make_wants, making_room}
 use Rattle.vch_making.specs.declared.question.Question.{Question}
 use Rattle.vch_making.specs.Asked.{question_by, content_by}
-use Rattle.vch_making.specs.Given.{IsRoomier, gave_none}
+use Rattle.vch_making.specs.Given.{gave_none}
 use Rattle.vch_making.specs.Refused.{IsRefused}
-use Rattle.vch_making.specs.Answers.{Answers, IsLoss, question_of, question_with, framed_question, place_of, content_of, reply_to}
-use Rattle.vch_making.proofs.giving.Follows.{answer_roomier, nothing_is, refused_is, roomier_may, roomier_next, roomier_question}
+use Rattle.vch_making.specs.Answers.{Answers, IsLoss, question_of, place_of, content_of, reply_to}
 use Rattle.vch_making.proofs.giving.Happens.{none_happens, refused_happens}
-use Rattle.vch_making.proofs.giving.Roomier.{roomier_reached}
 use Rattle.vch_making.proofs.questions.Asks.{answered}
 use Rattle.vch_making.proofs.questions.AskedBy.{asked_same}
 use Rattle.vch_making.proofs.questions.Previous.{asking}

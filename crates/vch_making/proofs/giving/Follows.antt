@@ -1,35 +1,29 @@
 -- From a manager's answer that leaves its values, to the event of the parts.
-use Rattle.std.proofs.Common.{◌≡◌, ℕ, ◌≤◌, true, false, refl, arith, sym, ap, ◌∙◌, subst, Option, Some, None}
-use Rattle.std.specs.Prelude.{Result, Ok, Err, ℤ, pos}
-use Rattle.vch_base.specs.declared.codes.TheConstants.{KERN_RESOURCE_SHORTAGE}
+use Rattle.std.proofs.Common.{◌≡◌, ℕ, ◌≤◌, true, refl, arith, sym, ap, ◌∙◌, subst, Option, Some, None}
+use Rattle.std.specs.Prelude.{Result, Ok, Err, ℤ}
 use Rattle.vch_base.specs.declared.fault.Code.{Code}
 use Rattle.vch_base.specs.declared.fault.NoMemory.{NoMemory}
-use Rattle.vch_base.specs.declared.key.Key.{Key}
 use Rattle.vch_base.specs.declared.kind.Kind.TheVariants as kinds
 use Rattle.vch_base.specs.declared.manager.GetFault.TheVariants as fault
 use Rattle.vch_base.specs.declared.manager.GetFault.{GetFault}
 use Rattle.vch_base.specs.declared.value.Value.{Value}
-use Rattle.vch_base.specs.Keyed.{Keyed, of_key, with_key}
+use Rattle.vch_base.specs.Keyed.{Keyed, of_key}
 use Rattle.vch_base.specs.Managers.{Kept}
 use Rattle.vch_value.specs.declared.flight.Made.{Made}
 use Rattle.vch_value.specs.declared.flight.Made.TheVariants as made
 use Rattle.vch_value.specs.Calls.{Makes}
 use Rattle.vch_model.specs.Lines.{is_task}
-use Rattle.vch_machine.specs.Next.{next_kind}
-use Rattle.vch_machine.specs.State.{Machine}
 use Rattle.vch_values.specs.Parts.{KeyParts, number_at}
-use Rattle.vch_vouchers.specs.Desks.{desk}
 use Rattle.vch_parts.specs.declared.parts.Parts.{Parts}
 use Rattle.vch_parts.specs.Framed.{working_of}
-use Rattle.vch_parts.specs.Nexts.{task_kind}
-use Rattle.vch_parts.specs.Reached.{plain_of, Reached, Stands, IsNext, IsState, IsEventBy, MayFollow}
+use Rattle.vch_parts.specs.Reached.{plain_of, Reached, IsNext, IsState, IsEventBy, MayFollow}
 use Rattle.vch_model.specs.Rows.{Entries}
 use Rattle.vch_parts.proofs.CallerLemmas.{each_key, other_with, next_agrees, is_next}
 use Rattle.vch_moves.proofs.CallerLemmas.{from_state, next_in}
 use Rattle.vch_making.specs.declared.question.Question.{Question}
 use Rattle.vch_making.specs.Given.{IsRoomier, RoomierKey}
-use Rattle.vch_making.specs.Answers.{Answers, question_of, reply_to}
-use Rattle.vch_making.proofs.giving.Roomier.{roomier_reached, roomier_state}
+use Rattle.vch_making.specs.Answers.{Answers, question_of}
+use Rattle.vch_making.proofs.giving.Roomier.{roomier_state}
 
 -- The reply, by the answer.
 

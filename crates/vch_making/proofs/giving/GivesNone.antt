@@ -1,9 +1,8 @@
 -- A manager hands out no value: the voucher loses the key, and the parts stand for the state then.
-use Rattle.std.proofs.Common.{◌≡◌, ℕ, ◌-◌, ◌<◌, ◌≤◌, List, [], ◌∷◌, ◌++◌, refl, arith, sym, ap, ◌∙◌, subst, Option, Some, None, append-nil}
+use Rattle.std.proofs.Common.{◌≡◌, ℕ, ◌-◌, List, [], ◌∷◌, ◌++◌, refl, arith, sym, ap, ◌∙◌, subst, Option, Some, None, append-nil}
 use Rattle.vch_base.specs.declared.key.Key.{Key}
 use Rattle.vch_base.specs.Keys.{number_of}
 use Rattle.vch_base.specs.Keyed.{of_key, with_key}
-use Rattle.vch_base.specs.Tasks.{set_task}
 use Rattle.vch_table.specs.Indices.{Bounded, SetsIndex}
 use Rattle.std.specs.Prelude.{Ok}
 use Rattle.vch_model.specs.declared.call.Call.{Call}
@@ -20,8 +19,7 @@ use Rattle.vch_legal.proofs.CallerLemmas.{moved_is}
 use Rattle.vch_state.specs.Moves.{let_at}
 use Rattle.vch_state.specs.Shape.{index_of}
 use Rattle.vch_parts.specs.declared.frame.Frame.{Frame}
-use Rattle.vch_parts.specs.Plain.{Indices, Plain, Part, part_of, with_frame, with_frame_at}
-use Rattle.vch_parts.specs.Shape.{IsFrame}
+use Rattle.vch_parts.specs.Plain.{Indices, Plain, Part}
 use Rattle.vch_parts.specs.Stands.{StandsFor}
 use Rattle.vch_moves.specs.Moments.{IsAtWork, Forms}
 use Rattle.vch_moves.specs.Works.{Workspace, ChangesEach, Alters, formed, machine_formed}

@@ -1,5 +1,5 @@
 -- The event Make by the manager's answer: what happens to the parts.
-use Rattle.std.proofs.Common.{◌≡◌, ℕ, ◌+◌, ◌-◌, ◌<◌, ◌≤◌, true, false, sym, ap, ◌∙◌, subst, length, Option, Some, None}
+use Rattle.std.proofs.Common.{◌≡◌, ℕ, ◌+◌, ◌<◌, ◌≤◌, true, false, ap, ◌∙◌, length, Option, Some, None}
 use Rattle.std.specs.Prelude.{Result, Ok, Err, ℤ}
 use Rattle.std.proofs.Math.ListN.{set}
 use Rattle.vch_base.specs.declared.key.Key.{Key}
@@ -50,10 +50,18 @@ module _ (sc : Scenario) (c : Plain) (m : Machine) (t : ℕ) (f : Frame) (g : ma
   module _ (x : Value) (receipt : Receipt) (x2 : KeyParts) (e : AsksFor (Ok (Some x)))
       (counts : picture.Depicts (made_picture receipt (picture_of k c m)) x2.entries x2.kept) where
     pub again_happens : HandsOut receipt false x (of_key k c.keyed) x2 → x2.numbers ≡ (of_key k c.keyed).numbers → Happens sc false kinds.Make t (gave c t f k receipt x2) m
-    again_happens hands numbers = (_, made_event (Ok (Some x)) e, a.next,
-        again_stands sc c m t a.work.positive a.work.inside f g k receipt a.work.own a.work.task a.work.frame a.work.idle.0 a.work.idle.1 a.work.stands ties x x2 counts hands numbers)
+    again_happens hands numbers = (
+      _,
+      made_event (Ok (Some x)) e,
+      a.next,
+      again_stands sc c m t a.work.positive a.work.inside f g k receipt a.work.own a.work.task a.work.frame a.work.idle.0 a.work.idle.1 a.work.stands ties x x2 counts hands numbers,
+    )
 
     pub fresh_happens : HandsOut receipt true x (of_key k c.keyed) x2 → x2.numbers ≡ set (of_key k c.keyed).numbers receipt.handle (length c.history + 1) → receipt.handle < length (of_key k c.keyed).numbers
         → Belongs k x → room_of sc m.past + 2 ≤ length m.past + c.spare → Happens sc false kinds.Make t (gave_fresh c t f k receipt x2 x) m
-    fresh_happens hands numbers there belongs room = (_, made_event (Ok (Some x)) e, a.next,
-        fresh_stands sc c m t a.work.positive a.work.inside f g k receipt a.work.own a.work.task a.work.frame a.work.idle.0 a.work.idle.1 a.work.stands ties x x2 counts hands numbers there belongs room)
+    fresh_happens hands numbers there belongs room = (
+      _,
+      made_event (Ok (Some x)) e,
+      a.next,
+      fresh_stands sc c m t a.work.positive a.work.inside f g k receipt a.work.own a.work.task a.work.frame a.work.idle.0 a.work.idle.1 a.work.stands ties x x2 counts hands numbers there belongs room,
+    )

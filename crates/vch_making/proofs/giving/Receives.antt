@@ -1,13 +1,13 @@
 -- A frame gets a receipt, of a value that was live or of a fresh one: what the parts stand for then.
-use Rattle.std.proofs.Common.{◌≡◌, ℕ, ◌+◌, ◌-◌, ◌<◌, ◌≤◌, ◌==◌, ◌&&◌, Bool, true, false, List, [], ◌∷◌, ◌++◌, refl, arith, sym, ap, ◌∙◌, length, map, reverse, subst, Option, Some, None}
+use Rattle.std.proofs.Common.{◌≡◌, ℕ, ◌+◌, ◌-◌, ◌<◌, ◌≤◌, ◌==◌, ◌&&◌, true, false, List, ◌∷◌, ◌++◌, refl, arith, sym, ap, ◌∙◌, length, map, reverse, subst, Option, Some, None}
 use Rattle.vch_base.specs.Tasks.{set_task, at_task}
 use Rattle.vch_base.specs.declared.key.Key.{Key}
 use Rattle.vch_base.specs.declared.key.Key.TheVariants as keys
 use Rattle.vch_base.specs.declared.places.Live.{Live}
 use Rattle.vch_base.specs.Keys.{same_key}
 use Rattle.vch_base.specs.Keyed.{of_key, with_key}
-use Rattle.vch_base.specs.Managers.{Kept, live_at, count}
-use Rattle.vch_entry.specs.Entries.{handle_at, entry_at, made_of}
+use Rattle.vch_base.specs.Managers.{live_at, count}
+use Rattle.vch_entry.specs.Entries.{handle_at}
 use Rattle.vch_value.specs.Flight.{Receipt}
 use Rattle.vch_value.specs.Picture as picture
 use Rattle.vch_value.specs.Picture.{Picture, Alike, AllAre, claims_at, flags_at, race, made_picture, default_of}
@@ -24,13 +24,13 @@ use Rattle.vch_legal.proofs.CallerLemmas.{claims_task}
 use Rattle.vch_bounds.specs.Rooms.{room_of}
 use Rattle.vch_state.specs.declared.frame.Claiming.{Claiming}
 use Rattle.vch_state.specs.Stands.{IsLiving}
-use Rattle.vch_values.specs.Parts.{KeyParts, number_at, rules_at, asked_in}
+use Rattle.vch_values.specs.Parts.{KeyParts, number_at, asked_in}
 use Rattle.vch_values.proofs.CallerLemmas.{of_with, same_key_refl, over_keys}
 use Rattle.vch_parts.specs.declared.frame.Frame.{Frame}
 use Rattle.vch_parts.specs.Plain.{Plain, part_of, with_frame}
-use Rattle.vch_parts.specs.Shape.{Shape, IsClaim, IsFrame, IsTask, IsIndexOf, slots_of}
+use Rattle.vch_parts.specs.Shape.{Shape, IsClaim, IsFrame, IsTask, IsIndexOf}
 use Rattle.vch_parts.specs.Pictures.{picture_of}
-use Rattle.vch_parts.specs.Stands.{StandsFor, KeyStands, Ledgers}
+use Rattle.vch_parts.specs.Stands.{StandsFor, KeyStands}
 use Rattle.vch_parts.proofs.CallerLemmas.{Keeps, frame_stays, task_stays, race_keeps, race_shows, shape_on, picture_on, picture_by, receipts_before, receipts_behind, picture_now, picture_then, picture_same, shape_then, framed, each_key, other_with, apart_keys, no_claim, Shows}
 use Rattle.vch_making.proofs.giving.Orders.{flags_behind, one_more, map_same}
 

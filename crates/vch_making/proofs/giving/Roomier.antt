@@ -1,5 +1,5 @@
 -- With more room, the parts stand for what they stood for.
-use Rattle.std.proofs.Common.{◌≡◌, ℕ, ◌+◌, ◌≤◌, refl, arith, sym, ap, ◌∙◌, length, subst}
+use Rattle.std.proofs.Common.{◌≡◌, ℕ, ◌+◌, ◌≤◌, arith, sym, ap, ◌∙◌, subst}
 use Rattle.vch_base.specs.declared.key.Key.{Key}
 use Rattle.vch_base.specs.declared.key.Key.TheVariants as keys
 use Rattle.vch_base.specs.Keyed.{Keyed, of_key}
@@ -14,7 +14,7 @@ use Rattle.vch_values.specs.Parts.{KeyParts}
 use Rattle.vch_values.proofs.CallerLemmas.{over_keys}
 use Rattle.vch_parts.specs.declared.parts.Parts.{Parts}
 use Rattle.vch_parts.specs.Plain.{Plain, part_of}
-use Rattle.vch_parts.specs.Shape.{Shape, IsIndexOf}
+use Rattle.vch_parts.specs.Shape.{Shape}
 use Rattle.vch_parts.specs.Stands.{StandsFor, KeyStands}
 use Rattle.vch_parts.specs.Reached.{plain_of, IsState, IsEnd, Reached, Stands}
 use Rattle.vch_parts.proofs.CallerLemmas.{Keeps, task_stays}

@@ -8,7 +8,7 @@ use Rattle.vch_base.specs.declared.kind.Kind.{Kind}
 use Rattle.vch_base.specs.declared.kind.Kind.TheVariants as kinds
 use Rattle.vch_base.specs.Keyed.{of_key}
 use Rattle.vch_base.specs.Managers.{mapped, preprocessed}
-use Rattle.vch_recipe.specs.Recipes.{First, One, first_of}
+use Rattle.vch_recipe.specs.Recipes.{first_of}
 use Rattle.vch_model.specs.Lines.{is_task}
 use Rattle.vch_model.specs.Store.{voucher_of}
 use Rattle.vch_model.specs.Transfer.{received_value}
@@ -16,8 +16,8 @@ use Rattle.vch_model.specs.Voucher.{Voucher}
 use Rattle.vch_model.specs.declared.call.Call.{Call}
 use Rattle.vch_model.specs.declared.call.Call.TheVariants as calls
 use Rattle.vch_model.specs.declared.lists.Scenario.{Scenario}
-use Rattle.vch_machine.specs.Making.{Asked, asked_by, asked_transfer, head_key}
-use Rattle.vch_machine.specs.Next.{call_next, first_next, nth_call, current}
+use Rattle.vch_machine.specs.Making.{Asked, asked_by, asked_transfer}
+use Rattle.vch_machine.specs.Next.{call_next, current}
 use Rattle.vch_machine.specs.State as machine
 use Rattle.vch_machine.specs.State.{Handles, Machine, tasked, member_of, valued, value_at}
 use Rattle.vch_legal.specs.Tie.{Ties, FormsSend, FormsRecv, keys_there, sent_keys, received_keys}

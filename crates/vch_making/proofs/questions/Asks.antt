@@ -1,50 +1,38 @@
 -- What the parts ask of a manager is what the machine asks, and so is the answer.
-use Rattle.std.proofs.Common.{◌≡◌, ◌≢◌, ℕ, ◌==◌, ◌&&◌, ◌||◌, not, Bool, true, false, List, [], ◌∷◌, ◌++◌, refl, sym, ap, ◌∙◌, subst, drop, Option, Some, None}
-use Rattle.std.specs.Prelude.{Result, Ok, Err, ℤ, if◌then◌else◌}
+use Rattle.std.proofs.Common.{◌≡◌, ◌≢◌, ℕ, ◌==◌, ◌&&◌, ◌||◌, Bool, true, false, List, [], ◌∷◌, refl, sym, ap, ◌∙◌, subst, Option, Some, None}
+use Rattle.std.specs.Prelude.{Result, Ok, ℤ, if◌then◌else◌}
 use Rattle.vch_base.specs.declared.commands.TheConstants as commands
-use Rattle.vch_base.specs.declared.flags.Flags.{Flags}
 use Rattle.vch_base.specs.declared.key.Key.{Key}
 use Rattle.vch_base.specs.declared.key.Key.TheVariants as keys
-use Rattle.vch_base.specs.declared.key.TheConstants.{ALL_KEYS}
-use Rattle.vch_base.specs.declared.kind.Kind.{Kind}
 use Rattle.vch_base.specs.declared.kind.Kind.TheVariants as kinds
 use Rattle.vch_base.specs.declared.value.Value.{Value}
 use Rattle.vch_base.specs.Keyed.{of_key}
 use Rattle.vch_base.specs.Managers as managers
 use Rattle.vch_base.specs.Managers.{answer, mapped, preprocessed, received, flags_in}
 use Rattle.vch_base.specs.Values.{Belongs}
-use Rattle.vch_recipe.specs.Recipes.{First, One, first_of}
+use Rattle.vch_recipe.specs.Recipes.{First, One}
 use Rattle.vch_recipe.specs.declared.recipe.Recipe.{Recipe}
 use Rattle.vch_value.specs.Calls.{previous_handle}
-use Rattle.vch_model.specs.Eval.{is_core_command, is_plain_command}
 use Rattle.vch_model.specs.Legal.{asks, is_managers}
-use Rattle.vch_model.specs.Lines.{is_task}
 use Rattle.vch_model.specs.Transfer.{received_value, flags_of}
 use Rattle.vch_model.specs.Voucher.{Voucher}
-use Rattle.vch_model.specs.declared.call.Call.{Call}
-use Rattle.vch_model.specs.declared.call.Call.TheVariants as calls
 use Rattle.vch_model.specs.declared.lists.Scenario.{Scenario}
 use Rattle.vch_machine.specs.Making as making
 use Rattle.vch_machine.specs.Making.{Asked, asked_by, asked_first, asked_transfer, asked_record, head_key}
 use Rattle.vch_machine.specs.Naming.{handles_of}
-use Rattle.vch_machine.specs.Next.{first_next, known_name, nth_call}
+use Rattle.vch_machine.specs.Next.{first_next, known_name}
 use Rattle.vch_machine.specs.State as machine
 use Rattle.vch_machine.specs.State.{Handles, Living, Machine, Place, tasked, living_at, value_at, member_of, valued, is_empty}
-use Rattle.vch_legal.specs.Tie.{Ties, FormsSend, FormsRecv, keys_there, sent_keys, received_keys}
-use Rattle.vch_legal.proofs.CallerLemmas.{forms_at}
+use Rattle.vch_legal.specs.Tie.{Ties}
 use Rattle.vch_state.specs.Shape.{Optional, Pairwise, index_of}
 use Rattle.vch_values.specs.Parts.{KeyParts, rules_at}
 use Rattle.vch_values.proofs.CallerLemmas.{answers_record, received_alike}
 use Rattle.vch_vouchers.specs.Desks.{Named, voucher_of}
 use Rattle.vch_replies.specs.Told.{handle_in, live_in}
 use Rattle.vch_replies.proofs.CallerLemmas.{value_here, map_at}
-use Rattle.vch_parts.specs.declared.frame.Frame.{Frame}
-use Rattle.vch_parts.specs.Plain.{Plain, Indices, part_of}
-use Rattle.vch_parts.specs.Shape.{IsIndexOf, IsMap, IsName, IsReceipt}
+use Rattle.vch_parts.specs.Plain.{Plain, Indices}
+use Rattle.vch_parts.specs.Shape.{IsMap, IsName}
 use Rattle.vch_parts.specs.Stands.{StandsFor}
-use Rattle.vch_parts.proofs.CallerLemmas.{no_receipt}
-use Rattle.vch_moves.specs.Moments.{Forms}
-use Rattle.vch_moves.proofs.CallerLemmas.{AtCall, is_call}
 use Rattle.vch_making.specs.declared.question.Question.{Question}
 use Rattle.vch_making.specs.Asked as asked
 use Rattle.vch_making.specs.Asked.{question_by, question_first, question_at, content_by, or_formed}

@@ -1,9 +1,9 @@
 -- What bounds the values, the receipts and the history, and the room that a fresh value needs.
-use Rattle.std.proofs.Common.{◌≡◌, ℕ, suc, ◌+◌, ◌*◌, ◌-◌, ◌<◌, ◌≤◌, ◌==◌, Bool, true, false, cond, List, [], ◌∷◌, refl, arith, sym, ap, ◌∙◌, length, take, subst, Option, Some, None}
+use Rattle.std.proofs.Common.{◌≡◌, ℕ, suc, ◌+◌, ◌*◌, ◌<◌, ◌≤◌, ◌==◌, Bool, true, false, cond, List, [], ◌∷◌, arith, sym, ap, ◌∙◌, length, take, subst, Option, Some, None}
 use Rattle.std.specs.Prelude.{◌^◌, replicate, Result, Ok, Err, OnOk}
 use Rattle.vch_model.specs.Rows.{Entries}
 use Rattle.std.specs.List.{count_by}
-use Rattle.std.proofs.lemmas.List.{length-reverse, length-replicate}
+use Rattle.std.proofs.lemmas.List.{length-replicate}
 use Rattle.std.proofs.lemmas.List.Sums.{count_by-le-length}
 use Rattle.vch_base.specs.Slots.{is_taken}
 use Rattle.vch_base.specs.declared.key.Key.{Key}

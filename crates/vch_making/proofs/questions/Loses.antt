@@ -1,5 +1,5 @@
 -- What a call that lost a key needs, and what it leaves.
-use Rattle.std.proofs.Common.{◌≡◌, ℕ, ◌+◌, ◌<◌, ◌≤◌, true, List, [], ◌∷◌, ◌++◌, refl, arith, sym, ap, ◌∙◌, length, subst, drop, Option, Some, None}
+use Rattle.std.proofs.Common.{◌≡◌, ℕ, ◌<◌, ◌≤◌, true, List, [], refl, arith, sym, ap, ◌∙◌, length, subst, drop, Some, None}
 use Rattle.std.specs.Prelude.{IfSome}
 use Rattle.std.proofs.lemmas.Option.{same_Some}
 use Rattle.vch_base.specs.declared.key.Key.{Key}
@@ -13,8 +13,6 @@ use Rattle.vch_model.specs.declared.call.Call.TheVariants as calls
 use Rattle.vch_machine.specs.Next.{nth_call}
 use Rattle.vch_legal.proofs.CallerLemmas.{record_inside}
 use Rattle.vch_state.specs.declared.frame.KeyIndex.{KeyIndex}
-use Rattle.vch_state.specs.Moves.{let_at}
-use Rattle.vch_state.specs.Shape.{index_of}
 use Rattle.vch_state.proofs.CallerLemmas.{room_for}
 use Rattle.vch_vouchers.specs.Desks.{Named, desk}
 use Rattle.vch_parts.specs.declared.frame.Frame.{Frame}
@@ -23,7 +21,7 @@ use Rattle.vch_parts.specs.declared.parts.Parts.{Parts}
 use Rattle.vch_parts.specs.Framed.{frame_of, begun_of, with_frame_of}
 use Rattle.vch_parts.specs.Moves.{PutsIndex, moved_on}
 use Rattle.vch_parts.specs.Nexts.{IsInside}
-use Rattle.vch_parts.specs.Plain.{Indices, Part, with_frame_at}
+use Rattle.vch_parts.specs.Plain.{Indices, with_frame_at}
 use Rattle.vch_parts.specs.Reached.{plain_of, Reached, IsNext}
 use Rattle.vch_parts.proofs.CallerLemmas.{tasks_then}
 use Rattle.vch_moves.proofs.CallerLemmas.{from_state}
@@ -90,7 +88,7 @@ module _ (p : Parts) (t : ℕ) (q : Question) (reached : Reached p) (task : is_t
           w.bounded,
           w.sets,
           ap (λ ts. record (plain_of p) { tasks = ts }) (tasks_then p t reached task frames2 (Some f4) put)
-          ∙ ap (λ z. with_frame_at (plain_of p) t (Some z)) (moved ∙ ap (moved_on p.scenario.version call) w.frame),
+              ∙ ap (λ z. with_frame_at (plain_of p) t (Some z)) (moved ∙ ap (moved_on p.scenario.version call) w.frame),
         )
 
     pub lose_is : IsLoss t q.key p (record p { frames = frames2 })

@@ -1,5 +1,5 @@
 -- The state in which a call asks, and that the value it begins with is live.
-use Rattle.std.proofs.Common.{◌≡◌, ℕ, ◌==◌, ◌-◌, ◌<◌, length, Bool, true, false, cond, List, [], ◌∷◌, refl, sym, ap, ◌∙◌, subst, drop, Option, Some, None, IsTrue}
+use Rattle.std.proofs.Common.{◌≡◌, ℕ, ◌==◌, ◌-◌, ◌<◌, length, Bool, true, false, cond, List, [], ◌∷◌, refl, sym, ap, ◌∙◌, subst, drop, Option, Some, None}
 use Rattle.std.specs.Prelude.{IsSome, IfSome, is_some, if◌then◌else◌}
 use Rattle.vch_base.specs.declared.key.Key.{Key}
 use Rattle.vch_base.specs.declared.kind.Kind.TheVariants as kinds
@@ -34,7 +34,7 @@ use Rattle.vch_parts.specs.Plain.{Plain, Part, Indices, part_of}
 use Rattle.vch_parts.specs.Reached.{plain_of, parts_in, Reached, Stands, IsNext}
 use Rattle.vch_parts.specs.Shape.{IsMap, IsName, IsIndexOf}
 use Rattle.vch_parts.specs.Stands.{StandsFor}
-use Rattle.vch_parts.proofs.CallerLemmas.{own_frame, own_begun, part_at, in_parts}
+use Rattle.vch_parts.proofs.CallerLemmas.{own_frame, own_begun, part_at}
 use Rattle.vch_moves.specs.Moments.{Forms}
 use Rattle.vch_moves.proofs.CallerLemmas.{AtCall, at_call_of, forms_of, next_in, stands_of, ties_of}
 use Rattle.vch_making.specs.declared.question.Question.{Question}

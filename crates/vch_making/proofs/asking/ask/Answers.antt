@@ -1,4 +1,4 @@
-use Rattle.std.proofs.Common.{arith, ◌≡◌, ◌<◌, ◌≤◌, ◌∙◌, ◌+◌, sym, ap, subst, refl, length, take}
+use Rattle.std.proofs.Common.{arith, ◌≤◌, ◌∙◌, sym, ap, subst, refl, length, take}
 use Rattle.vch_base.specs.Keyed.{of_key}
 use Rattle.vch_base.specs.Managers as managers
 use Rattle.vch_base.specs.Managers.{answer}
@@ -11,7 +11,7 @@ use Rattle.vch_parts.specs.Reached.{plain_of}
 use Rattle.vch_parts.proofs.CallerLemmas.{task_inside}
 use Rattle.vch_moves.proofs.CallerLemmas.{from_state, stands_of, ties_of}
 use Rattle.vch_making.specs.Asked.{content_by}
-use Rattle.vch_making.specs.Answers.{receipts_in, content_of, place_of}
+use Rattle.vch_making.specs.Answers.{receipts_in, place_of}
 use Rattle.vch_making.proofs.questions.Bounds.{tasks_few, tasks_there, slots_few, counts_few, flying_few, flights_are, knows_task}
 use Rattle.vch_making.proofs.questions.Previous.{previous_there, previous_is_live}
 use Rattle.vch_making.proofs.asking.ask.Goals as goal

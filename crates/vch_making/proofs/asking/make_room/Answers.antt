@@ -1,4 +1,4 @@
-use Rattle.std.proofs.Common.{arith, ◌∙◌, ap, sym, subst, refl, length, ◌<◌, ◌≤◌, ◌+◌, ◌*◌, ◌≡◌, ℕ}
+use Rattle.std.proofs.Common.{arith, ◌∙◌, ap, subst, length, ◌<◌, ◌≤◌, ◌+◌, ◌*◌, ◌≡◌, ℕ}
 use Rattle.vch_base.specs.Keyed.{of_key}
 use Rattle.vch_model.specs.declared.lists.Scenario.{Scenario}
 use Rattle.vch_making.proofs.questions.Bounds.{on_ok, room_made, calls_few, phases_few, live_few, slots_few, room_fits}

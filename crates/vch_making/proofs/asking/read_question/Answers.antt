@@ -1,4 +1,3 @@
-use Rattle.std.proofs.Common.{◌≤◌}
 use Rattle.vch_parts.proofs.CallerLemmas.{task_inside, desk_inside}
 use Rattle.vch_making.proofs.asking.read_question.Goals as goal
 
