@@ -37,16 +37,16 @@ fn limit_of(scenario: &Scenario, task: u32) -> usize
     *scenario.queues.at(task as usize - 1) as usize
 }
 
-/// The store of the entries of a history that were taken so far.
+/// The store of the entries of a history that were taken so far. It is moved with every entry, so its large parts are boxed.
 #[derive(Drop)]
 pub struct Books<'a> {
     pub(crate) scenario: &'a Scenario,
     pub(crate) taken: usize,
     pub(crate) tasks: Tasks,
-    pub(crate) live: Live<'a>,
+    pub(crate) live: Box<Live<'a>>,
     pub(crate) phases: u32,
     pub(crate) places: Places,
-    pub(crate) sums: Sums,
+    pub(crate) sums: Box<Sums>,
 }
 
 impl<'a> Model for Books<'a> {
@@ -55,9 +55,9 @@ impl<'a> Model for Books<'a> {
 
     ghost Value = { Audit };
 
-    ghost view = { λ b. record { scenario = b.scenario.now; history = b.live.history; taken = b.taken } };
+    ghost view = { λ b. record { scenario = b.scenario.now; history = b.live.value.history; taken = b.taken } };
 
-    ghost invariant = { λ b. Keeps (record { scenario = b.scenario.now; history = b.live.history; taken = b.taken }) (record { tasks = b.tasks; live = b.live.numbers; phases = b.phases; places = b.places; sums = b.sums }) };
+    ghost invariant = { λ b. Keeps (record { scenario = b.scenario.now; history = b.live.value.history; taken = b.taken }) (record { tasks = b.tasks; live = b.live.value.numbers; phases = b.phases; places = b.places; sums = b.sums.value }) };
 }
 
 impl<'a> Books<'a> {
@@ -71,14 +71,17 @@ impl<'a> Books<'a> {
         requires short { length history.now.entries < 4294967296 }
         ensures { IfOk result (λ made. made ≡ record { scenario = scenario.now; history = history.now.entries; taken = 0 }) }
     {
+        let live = Live::new(alloc, history);
+        let live = Box::new(alloc, live)?;
         let places = places_of(alloc, scenario)?;
-        let sums = Sums::start(alloc, scenario)?;
+        let rows = Sums::start(alloc, scenario)?;
+        let sums = Box::new(alloc, rows)?;
         let tasks = Tasks::nobody(alloc, scenario.flags.len())?;
         Ok(Books {
             scenario,
             taken: 0,
             tasks,
-            live: Live::new(alloc, history),
+            live,
             phases: 0,
             places,
             sums,

@@ -19,7 +19,7 @@ use vch_base::NoMemory;
 #[derive(Drop)]
 pub struct Tasks {
     members: Vec<Member>,
-    holders: Holders,
+    holders: Box<Holders>,
 }
 
 impl Model for Tasks {
@@ -31,7 +31,7 @@ impl Model for Tasks {
 
     ghost view = { λ t. t.members.items };
 
-    ghost invariant = { λ t. AreHeld t.holders (all_numbers t.members.items) };
+    ghost invariant = { λ t. AreHeld t.holders.value (all_numbers t.members.items) };
 }
 
 /// So many tasks without a name and a message.
@@ -51,10 +51,8 @@ impl Tasks {
         ensures { IfOk result (λ made. made ≡ replicate count empty_desk) }
     {
         let members = nobody(alloc, count)?;
-        Ok(Tasks {
-            members,
-            holders: Holders::new(alloc),
-        })
+        let holders = Box::new(alloc, Holders::new(alloc))?;
+        Ok(Tasks { members, holders })
     }
 
     /// How many tasks there are.

@@ -11,13 +11,14 @@ use Rattle.vch_model.specs.Totals.{named_voucher}
 use Rattle.vch_books.specs.Audits.{Accepts}
 use Rattle.vch_books.specs.Numbered.{StandsAt, numbered_value}
 use Rattle.vch_books.proofs.Counting.{keeps_counted, accepts_within, few_before}
+use Rattle.vch_sums.specs.Summed.{Summed, FollowsCount}
 use Rattle.vch_books.proofs.books.Books.counted.Goals as goal
 
 pub begin_at-requires-clause-task : goal.begin_at-requires-clause-task
 begin_at-requires-clause-task c =
     let s = c.self.inside in
-    let a : Audit = record { scenario = s.scenario.now; history = s.live.history; taken = s.taken } in
-    let l : Lists = record { tasks = s.tasks; live = s.live.numbers; phases = s.phases; places = s.places; sums = s.sums } in
+    let a : Audit = record { scenario = s.scenario.now; history = s.live.value.history; taken = s.taken } in
+    let l : Lists = record { tasks = s.tasks; live = s.live.value.numbers; phases = s.phases; places = s.places; sums = s.sums.value } in
     let h = a.history in
     let t = c.args.task in
     let k : Keeps a l = c.self.invariant in
@@ -27,8 +28,8 @@ begin_at-requires-clause-task c =
 pub begin_at-requires-clause-few : goal.begin_at-requires-clause-few
 begin_at-requires-clause-few c =
     let s = c.self.inside in
-    let a : Audit = record { scenario = s.scenario.now; history = s.live.history; taken = s.taken } in
-    let l : Lists = record { tasks = s.tasks; live = s.live.numbers; phases = s.phases; places = s.places; sums = s.sums } in
+    let a : Audit = record { scenario = s.scenario.now; history = s.live.value.history; taken = s.taken } in
+    let l : Lists = record { tasks = s.tasks; live = s.live.value.numbers; phases = s.phases; places = s.places; sums = s.sums.value } in
     let h = a.history in
     let t = c.args.task in
     let k : Keeps a l = c.self.invariant in
@@ -37,12 +38,12 @@ begin_at-requires-clause-few c =
 pub invariant_of-self : goal.invariant_of-self
 invariant_of-self c =
     let s = c.self.inside in
-    let a : Audit = record { scenario = s.scenario.now; history = s.live.history; taken = s.taken } in
-    let l : Lists = record { tasks = s.tasks; live = s.live.numbers; phases = s.phases; places = s.places; sums = s.sums } in
+    let a : Audit = record { scenario = s.scenario.now; history = s.live.value.history; taken = s.taken } in
+    let l : Lists = record { tasks = s.tasks; live = s.live.value.numbers; phases = s.phases; places = s.places; sums = s.sums.value } in
     let h = a.history in
     let t = c.args.task in
     let k : Keeps a l = c.self.invariant in
     let acc : Accepts a t (calls.Extern c.args.name c.args.adding c.args.n) = subst (λ (x : Audit). Accepts x t (calls.Extern c.args.name c.args.adding c.args.n)) (sym c.self.view_is) c.requires.next in
     let named = subst (λ (x : Audit). value_in keys.Importance (named_voucher (store_at x) t c.args.name) ≡ Some (numbered_value x.history c.args.number)) (sym c.self.view_is) c.requires.named in
     let good = subst (λ (x : Audit). StandsAt x.history (store_at x).live keys.Importance (Some c.args.number)) (sym c.self.view_is) c.requires.good in
-    subst (λ (ts : List Desk). Keeps (advanced a) (record l { tasks = ts; sums = c.counted.new.self })) (sym c.begin_at.ensures) (keeps_counted a l c.counted.new.self t c.args.name c.args.number c.args.adding c.args.n k acc named good c.in_ok-counted.ensures)
+    subst (λ (ts : List Desk). Keeps (advanced a) (record l { tasks = ts; sums = c.counted.new.self })) (sym c.begin_at.ensures) (keeps_counted a l c.counted.new.self t c.args.name c.args.number c.args.adding c.args.n k acc named good (subst (λ (x : Summed). FollowsCount c.args.number c.args.adding c.args.n x c.counted.new.self) c.deref_mut.ensures.value c.in_ok-counted.ensures))

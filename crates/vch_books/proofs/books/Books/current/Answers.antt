@@ -19,7 +19,7 @@ if_some (Some b) p T e f = f b.now (sym e)
 pub call_now-requires-clause-few : goal.call_now-requires-clause-few
 call_now-requires-clause-few c =
     let s = c.self.inside in
-    let l : Lists = record { tasks = s.tasks; live = s.live.numbers; phases = s.phases; places = s.places; sums = s.sums } in
+    let l : Lists = record { tasks = s.tasks; live = s.live.value.numbers; phases = s.phases; places = s.places; sums = s.sums.value } in
     let k : Keeps c.args.self.now l = subst (λ (a : Audit). Keeps a l) c.self.view_is c.self.invariant in
     let few : (at_task s.tasks c.args.task empty_desk).begun ≤ 16384 = few_kept c.args.self.now l k c.args.task in
     let is : c.begun_at-begun.result ≡ (at_task s.tasks c.args.task empty_desk).begun = rw c.begun_at-begun.ensures refl in
@@ -28,7 +28,7 @@ call_now-requires-clause-few c =
 pub returns-clause-call : goal.returns-clause-call
 returns-clause-call c =
     let s = c.self.inside in
-    let l : Lists = record { tasks = s.tasks; live = s.live.numbers; phases = s.phases; places = s.places; sums = s.sums } in
+    let l : Lists = record { tasks = s.tasks; live = s.live.value.numbers; phases = s.phases; places = s.places; sums = s.sums.value } in
     let k : Keeps c.args.self.now l = subst (λ (a : Audit). Keeps a l) c.self.view_is c.self.invariant in
     let own = ap (λ (a : Audit). a.scenario) c.self.view_is in
     let is : c.begun_at-begun.result ≡ (at_task s.tasks c.args.task empty_desk).begun = rw c.begun_at-begun.ensures refl in
@@ -38,7 +38,7 @@ returns-clause-call c =
 pub returns-clause-task : goal.returns-clause-task
 returns-clause-task c =
     let s = c.self.inside in
-    let l : Lists = record { tasks = s.tasks; live = s.live.numbers; phases = s.phases; places = s.places; sums = s.sums } in
+    let l : Lists = record { tasks = s.tasks; live = s.live.value.numbers; phases = s.phases; places = s.places; sums = s.sums.value } in
     let k : Keeps c.args.self.now l = subst (λ (a : Audit). Keeps a l) c.self.view_is c.self.invariant in
     let own = ap (λ (a : Audit). a.scenario) c.self.view_is in
     let is : c.begun_at-begun.result ≡ (at_task s.tasks c.args.task empty_desk).begun = rw c.begun_at-begun.ensures refl in

@@ -17,28 +17,28 @@ pub returns-clause-live : goal.returns-clause-live
 returns-clause-live c =
     let s = c.self.inside in
     let a = c.args.self.now in
-    let l : Lists = record { tasks = s.tasks; live = s.live.numbers; phases = s.phases; places = s.places; sums = s.sums } in
+    let l : Lists = record { tasks = s.tasks; live = s.live.value.numbers; phases = s.phases; places = s.places; sums = s.sums.value } in
     let k : Keeps a l = subst (λ (x : Audit). Keeps x l) c.self.view_is c.self.invariant in
     let own = ap (λ (x : Audit). x.history) c.self.view_is in
-    let e : c.find.result ≡ number_with a.history s.live.numbers (number_of c.args.key) c.args.value.now = rw (c.find.ensures, c.number.ensures) (ap (λ (h : List Entry). number_with h s.live.numbers (number_of c.args.key) c.args.value.now) own) in
+    let e : c.find.result ≡ number_with a.history s.live.value.numbers (number_of c.args.key) c.args.value.now = rw (c.find.ensures, c.number.ensures, c.deref.ensures) (ap (λ (h : List Entry). number_with h s.live.value.numbers (number_of c.args.key) c.args.value.now) own) in
     ap is_some e ∙ live_found a l k (number_of c.args.key) c.args.value.now (sym c.is_default.ensures ∙ c.if-is_default.false)
 
 pub returns-clause-value : goal.returns-clause-value
 returns-clause-value c =
     let s = c.self.inside in
     let a = c.args.self.now in
-    let l : Lists = record { tasks = s.tasks; live = s.live.numbers; phases = s.phases; places = s.places; sums = s.sums } in
+    let l : Lists = record { tasks = s.tasks; live = s.live.value.numbers; phases = s.phases; places = s.places; sums = s.sums.value } in
     let k : Keeps a l = subst (λ (x : Audit). Keeps x l) c.self.view_is c.self.invariant in
     let own = ap (λ (x : Audit). x.history) c.self.view_is in
-    let e : c.find.result ≡ number_with a.history s.live.numbers (number_of c.args.key) c.args.value.now = rw (c.find.ensures, c.number.ensures) (ap (λ (h : List Entry). number_with h s.live.numbers (number_of c.args.key) c.args.value.now) own) in
-    found_value a.history s.live.numbers (number_of c.args.key) c.args.value.now c.find.result (sym e)
+    let e : c.find.result ≡ number_with a.history s.live.value.numbers (number_of c.args.key) c.args.value.now = rw (c.find.ensures, c.number.ensures, c.deref.ensures) (ap (λ (h : List Entry). number_with h s.live.value.numbers (number_of c.args.key) c.args.value.now) own) in
+    found_value a.history s.live.value.numbers (number_of c.args.key) c.args.value.now c.find.result (sym e)
 
 pub returns-clause-stands : goal.returns-clause-stands
 returns-clause-stands c =
     let s = c.self.inside in
     let a = c.args.self.now in
-    let l : Lists = record { tasks = s.tasks; live = s.live.numbers; phases = s.phases; places = s.places; sums = s.sums } in
+    let l : Lists = record { tasks = s.tasks; live = s.live.value.numbers; phases = s.phases; places = s.places; sums = s.sums.value } in
     let k : Keeps a l = subst (λ (x : Audit). Keeps x l) c.self.view_is c.self.invariant in
     let own = ap (λ (x : Audit). x.history) c.self.view_is in
-    let e : c.find.result ≡ number_with a.history s.live.numbers (number_of c.args.key) c.args.value.now = rw (c.find.ensures, c.number.ensures) (ap (λ (h : List Entry). number_with h s.live.numbers (number_of c.args.key) c.args.value.now) own) in
+    let e : c.find.result ≡ number_with a.history s.live.value.numbers (number_of c.args.key) c.args.value.now = rw (c.find.ensures, c.number.ensures, c.deref.ensures) (ap (λ (h : List Entry). number_with h s.live.value.numbers (number_of c.args.key) c.args.value.now) own) in
     found_stands a l k c.args.key c.args.value.now c.find.result (sym e)

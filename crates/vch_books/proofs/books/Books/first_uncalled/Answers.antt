@@ -16,7 +16,7 @@ pub first_short-requires-clause-small : goal.first_short-requires-clause-small
 first_short-requires-clause-small c =
     let s = c.self.inside in
     let a = c.args.self.now in
-    let l : Lists = record { tasks = s.tasks; live = s.live.numbers; phases = s.phases; places = s.places; sums = s.sums } in
+    let l : Lists = record { tasks = s.tasks; live = s.live.value.numbers; phases = s.phases; places = s.places; sums = s.sums.value } in
     let k : Keeps a l = subst (λ (x : Audit). Keeps x l) c.self.view_is c.self.invariant in
     let own = ap (λ (x : Audit). x.history) c.self.view_is in
     all_few a l k
@@ -25,7 +25,7 @@ pub returns : goal.returns
 returns c =
     let s = c.self.inside in
     let a = c.args.self.now in
-    let l : Lists = record { tasks = s.tasks; live = s.live.numbers; phases = s.phases; places = s.places; sums = s.sums } in
+    let l : Lists = record { tasks = s.tasks; live = s.live.value.numbers; phases = s.phases; places = s.places; sums = s.sums.value } in
     let k : Keeps a l = subst (λ (x : Audit). Keeps x l) c.self.view_is c.self.invariant in
     let own = ap (λ (x : Audit). x.history) c.self.view_is in
     match_uncalled a l c.first_short.result k c.first_short.ensures

@@ -9,8 +9,8 @@ use Rattle.vch_books.proofs.books.Books.phase.Goals as goal
 pub invariant_of-self : goal.invariant_of-self
 invariant_of-self c =
     let s = c.self.inside in
-    let a : Audit = record { scenario = s.scenario.now; history = s.live.history; taken = s.taken } in
-    let l : Lists = record { tasks = s.tasks; live = s.live.numbers; phases = s.phases; places = s.places; sums = s.sums } in
+    let a : Audit = record { scenario = s.scenario.now; history = s.live.value.history; taken = s.taken } in
+    let l : Lists = record { tasks = s.tasks; live = s.live.value.numbers; phases = s.phases; places = s.places; sums = s.sums.value } in
     let h = a.history in
     let k : Keeps a l = c.self.invariant in
     let n : IsNext a (entries.Phase) = subst (λ (x : Audit). IsNext x (entries.Phase)) (sym c.self.view_is) c.requires.next in

@@ -16,8 +16,8 @@ use Rattle.vch_books.proofs.books.Books.receive.Goals as goal
 pub take_first_at-requires : goal.take_first_at-requires
 take_first_at-requires c =
     let s = c.self.inside in
-    let a : Audit = record { scenario = s.scenario.now; history = s.live.history; taken = s.taken } in
-    let l : Lists = record { tasks = s.tasks; live = s.live.numbers; phases = s.phases; places = s.places; sums = s.sums } in
+    let a : Audit = record { scenario = s.scenario.now; history = s.live.value.history; taken = s.taken } in
+    let l : Lists = record { tasks = s.tasks; live = s.live.value.numbers; phases = s.phases; places = s.places; sums = s.sums.value } in
     let h = a.history in
     let t = c.args.task in
     let k : Keeps a l = c.self.invariant in
@@ -28,8 +28,8 @@ take_first_at-requires c =
 pub begin_at-requires-clause-task : goal.begin_at-requires-clause-task
 begin_at-requires-clause-task c =
     let s = c.self.inside in
-    let a : Audit = record { scenario = s.scenario.now; history = s.live.history; taken = s.taken } in
-    let l : Lists = record { tasks = s.tasks; live = s.live.numbers; phases = s.phases; places = s.places; sums = s.sums } in
+    let a : Audit = record { scenario = s.scenario.now; history = s.live.value.history; taken = s.taken } in
+    let l : Lists = record { tasks = s.tasks; live = s.live.value.numbers; phases = s.phases; places = s.places; sums = s.sums.value } in
     let h = a.history in
     let t = c.args.task in
     let k : Keeps a l = c.self.invariant in
@@ -43,8 +43,8 @@ begin_at-requires-clause-task c =
 pub begin_at-requires-clause-few : goal.begin_at-requires-clause-few
 begin_at-requires-clause-few c =
     let s = c.self.inside in
-    let a : Audit = record { scenario = s.scenario.now; history = s.live.history; taken = s.taken } in
-    let l : Lists = record { tasks = s.tasks; live = s.live.numbers; phases = s.phases; places = s.places; sums = s.sums } in
+    let a : Audit = record { scenario = s.scenario.now; history = s.live.value.history; taken = s.taken } in
+    let l : Lists = record { tasks = s.tasks; live = s.live.value.numbers; phases = s.phases; places = s.places; sums = s.sums.value } in
     let h = a.history in
     let t = c.args.task in
     let k : Keeps a l = c.self.invariant in
@@ -58,8 +58,8 @@ begin_at-requires-clause-few c =
 pub invariant_of-self : goal.invariant_of-self
 invariant_of-self c =
     let s = c.self.inside in
-    let a : Audit = record { scenario = s.scenario.now; history = s.live.history; taken = s.taken } in
-    let l : Lists = record { tasks = s.tasks; live = s.live.numbers; phases = s.phases; places = s.places; sums = s.sums } in
+    let a : Audit = record { scenario = s.scenario.now; history = s.live.value.history; taken = s.taken } in
+    let l : Lists = record { tasks = s.tasks; live = s.live.value.numbers; phases = s.phases; places = s.places; sums = s.sums.value } in
     let h = a.history in
     let t = c.args.task in
     let k : Keeps a l = c.self.invariant in

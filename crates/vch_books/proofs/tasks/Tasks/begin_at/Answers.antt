@@ -8,5 +8,5 @@ use Rattle.vch_books.proofs.tasks.Tasks.begin_at.Goals as goal
 pub invariant_of-self : goal.invariant_of-self
 invariant_of-self c =
     let s = c.self.inside in
-    subst (λ (d : Desk). AreHeld s.holders (all_numbers (slice_set s.members.items (c.args.task - 1) d))) (sym c.begin.ensures)
-    (held_same s.holders s.members.items (c.args.task - 1) c.index_mut.result.now _ c.index_mut.ensures.value refl c.self.invariant)
+    subst (λ (d : Desk). AreHeld s.holders.value (all_numbers (slice_set s.members.items (c.args.task - 1) d))) (sym c.begin.ensures)
+    (held_same s.holders.value s.members.items (c.args.task - 1) c.index_mut.result.now _ c.index_mut.ensures.value refl c.self.invariant)

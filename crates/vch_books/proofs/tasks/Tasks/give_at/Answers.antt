@@ -4,6 +4,7 @@ use Rattle.vch_books.specs.Desks.{Desk, name_with}
 use Rattle.vch_books.specs.Holding.{AreHeld, all_numbers}
 use Rattle.vch_books.proofs.Holdings.{held_more, held_same, none_of, some_of}
 use Rattle.vch_books.proofs.Tallies.{given_comes, given_stays}
+use Rattle.vch_books.specs.declared.holders.Holders.{Holders}
 use Rattle.vch_books.proofs.tasks.Tasks.give_at.Goals as goal
 
 pub invariant_of-self : goal.invariant_of-self
@@ -14,13 +15,13 @@ invariant_of-self c =
     let d = c.index_mut.result.now in
     let new = none_of (name_with d.names c.args.voucher) (c.in_ok-give.ensures.fresh ∙ ap not c.if-branch.true) in
     subst (λ (d : Desk). AreHeld c.add.new.self (all_numbers (slice_set s.members.items (c.args.task - 1) d))) (sym c.in_ok-give.ensures.given)
-    (held_more s.holders c.add.new.self s.members.items (c.args.task - 1) c.args.voucher d _ i c.index_mut.ensures.value
-    (given_comes d c.args.voucher new) c.self.invariant c.in_ok-add.ensures)
+    (held_more c.deref_mut.result.now c.add.new.self s.members.items (c.args.task - 1) c.args.voucher d _ i c.index_mut.ensures.value
+    (given_comes d c.args.voucher new) (subst (λ (h : Holders). AreHeld h (all_numbers s.members.items)) (sym c.deref_mut.ensures.value) c.self.invariant) c.in_ok-add.ensures)
 
 pub invariant_of-self-else-branch : goal.invariant_of-self-else-branch
 invariant_of-self-else-branch c =
     let s = c.self.inside in
     let d = c.index_mut.result.now in
     let old = some_of (name_with d.names c.args.voucher) (c.in_ok-give.ensures.fresh ∙ ap not c.if-branch.false) in
-    subst (λ (d : Desk). AreHeld s.holders (all_numbers (slice_set s.members.items (c.args.task - 1) d))) (sym c.in_ok-give.ensures.given)
-    (held_same s.holders s.members.items (c.args.task - 1) d _ c.index_mut.ensures.value (given_stays d c.args.voucher old.0 old.1) c.self.invariant)
+    subst (λ (d : Desk). AreHeld s.holders.value (all_numbers (slice_set s.members.items (c.args.task - 1) d))) (sym c.in_ok-give.ensures.given)
+    (held_same s.holders.value s.members.items (c.args.task - 1) d _ c.index_mut.ensures.value (given_stays d c.args.voucher old.0 old.1) c.self.invariant)

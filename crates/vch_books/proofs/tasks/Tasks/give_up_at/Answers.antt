@@ -13,12 +13,12 @@ invariant_of-self c =
     let w : (1 ≤ c.args.task) × (c.args.task ≤ length s.members.items) = subst (λ (ts : List Desk). (1 ≤ c.args.task) × (c.args.task ≤ length ts)) (sym c.self.view_is) c.requires in
     let i : c.args.task - 1 < length s.members.items = omega (arith, w.0, w.1) in
     subst (λ (d : Desk). AreHeld c.remove.new.self (all_numbers (slice_set s.members.items (c.args.task - 1) d))) (sym c.give_up.ensures.less)
-    (held_less s.holders c.remove.new.self s.members.items (c.args.task - 1) c.in-Some.voucher c.index_mut.result.now _ i c.index_mut.ensures.value
-    (give_up_goes c.index_mut.result.now c.args.name c.in-Some.voucher (sym c.give_up.ensures.gone ∙ c.in-Some.is)) c.self.invariant c.remove.ensures)
+    (held_less c.deref_mut.result.now c.remove.new.self s.members.items (c.args.task - 1) c.in-Some.voucher c.index_mut.result.now _ i c.index_mut.ensures.value
+    (give_up_goes c.index_mut.result.now c.args.name c.in-Some.voucher (sym c.give_up.ensures.gone ∙ c.in-Some.is)) (subst (λ (h : Holders). AreHeld h (all_numbers s.members.items)) (sym c.deref_mut.ensures.value) c.self.invariant) c.remove.ensures)
 
 pub invariant_of-self-in_default : goal.invariant_of-self-in_default
 invariant_of-self-in_default c =
     let s = c.self.inside in
-    subst (λ (d : Desk). AreHeld s.holders (all_numbers (slice_set s.members.items (c.args.task - 1) d))) (sym c.give_up.ensures.less)
-    (held_same s.holders s.members.items (c.args.task - 1) c.index_mut.result.now _ c.index_mut.ensures.value
+    subst (λ (d : Desk). AreHeld s.holders.value (all_numbers (slice_set s.members.items (c.args.task - 1) d))) (sym c.give_up.ensures.less)
+    (held_same s.holders.value s.members.items (c.args.task - 1) c.index_mut.result.now _ c.index_mut.ensures.value
     (give_up_stays c.index_mut.result.now c.args.name (sym c.give_up.ensures.gone ∙ c.in_default.is)) c.self.invariant)

@@ -1,9 +1,10 @@
-use Rattle.std.proofs.Common.{◌≡◌, List, ◌∙◌, ap}
+use Rattle.std.proofs.Common.{◌≡◌, List, ◌∙◌, ap, sym, subst}
 use Rattle.std.specs.Prelude.{nat_eq}
 use Rattle.vch_books.specs.Counts.{different_by}
 use Rattle.vch_books.specs.Desks.{Desk}
-use Rattle.vch_books.specs.Holding.{all_numbers, different_numbers, held_numbers}
+use Rattle.vch_books.specs.Holding.{all_numbers, different_numbers, held_numbers, AreHeld}
+use Rattle.vch_books.specs.declared.holders.Holders.{Holders}
 use Rattle.vch_books.proofs.tasks.Tasks.values.Goals as goal
 
 pub returns : goal.returns
-returns c = c.values.ensures ∙ (c.self.invariant.numbers.many ∙ ap (λ (ts : List Desk). different_by nat_eq (held_numbers ts)) c.self.view_is)
+returns c = c.values.ensures ∙ ((subst (λ (h : Holders). AreHeld h (all_numbers c.self.inside.members.items)) (sym c.deref.ensures) c.self.invariant).numbers.many ∙ ap (λ (ts : List Desk). different_by nat_eq (held_numbers ts)) c.self.view_is)
