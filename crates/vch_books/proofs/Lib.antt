@@ -1,4 +1,5 @@
 pub mod NameRows
+pub mod Naming
 pub mod Lists
 pub mod Members
 pub mod Values

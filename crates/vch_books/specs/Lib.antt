@@ -6,4 +6,5 @@ pub mod Turns
 pub mod Going
 pub mod Counts
 pub mod Holding
+pub mod Naming
 pub mod Living

@@ -5,7 +5,7 @@ ghost use Rattle.vch_books.specs.Desks as desks;
 ghost use Rattle.vch_books.specs.Desks.{empty_desk, numbers_at, name_with, gone_with, first_voucher, given};
 
 use crate::Numbers;
-use crate::names::{lowest, name_of, one_less, one_more, voucher_of, without};
+use crate::names::Names;
 use crate::queue::Queue;
 use crate::rows::{Message, Named};
 use std::alloc::Global;
@@ -16,7 +16,7 @@ use vch_base::NoMemory;
 /// many calls of it were taken.
 #[derive(Drop)]
 pub struct Member {
-    names: Vec<Named>,
+    names: Names,
     next: u32,
     queue: Queue,
     begun: u32,
@@ -27,7 +27,7 @@ impl Model for Member {
 
     ghost Value = { Desk };
 
-    ghost view = { λ m. record { names = m.names.items; next = m.next; queue = m.queue; begun = m.begun } };
+    ghost view = { λ m. record { names = m.names; next = m.next; queue = m.queue; begun = m.begun } };
 }
 
 impl Member {
@@ -36,7 +36,7 @@ impl Member {
         ensures { result ≡ empty_desk }
     {
         Member {
-            names: Vec::new(alloc),
+            names: Names::new(alloc),
             next: 1,
             queue: Queue::new(alloc),
             begun: 0,
@@ -47,14 +47,14 @@ impl Member {
     pub fn voucher_of(&self, name: u32) -> Option<Numbers>
         ensures { result ≡ numbers_at self.now.names name }
     {
-        voucher_of(self.names.as_slice(), name)
+        self.names.voucher_of(name)
     }
 
     /// The name that a voucher has, or gets where it is given.
     pub fn name_for(&self, voucher: &Numbers) -> u32
         ensures { result ≡ desks.name_for self.now (name_with self.now.names voucher.now) }
     {
-        match name_of(self.names.as_slice(), voucher) {
+        match self.names.name_of(voucher) {
             Some(name) => name,
             None => self.next,
         }
@@ -64,14 +64,14 @@ impl Member {
     pub fn lowest(&self) -> Option<u32>
         ensures { result ≡ desks.lowest self.now.names }
     {
-        lowest(self.names.as_slice())
+        self.names.lowest()
     }
 
     /// Whether it has a name.
     pub fn has_name(&self) -> bool
         ensures { result ≡ not (is_empty self.now.names) }
     {
-        self.names.len() > 0
+        self.names.has_any()
     }
 
     /// Whether it has a message.
@@ -115,8 +115,8 @@ impl Member {
         ensures given { OnOk result (self.new ≡ given self.old voucher) }
         ensures fresh { IfOk result (λ fresh. is_some (name_with self.old.names voucher) ≡ not fresh) }
     {
-        if let Some(name) = name_of(self.names.as_slice(), &voucher) {
-            one_more(&mut self.names, name)?;
+        if let Some(name) = self.names.name_of(&voucher) {
+            self.names.one_more(name)?;
             return Ok(false);
         }
         let name = self.next;
@@ -137,7 +137,7 @@ impl Member {
         ensures less { self.new ≡ record self.old { names = desks.one_less self.old.names name } }
         ensures gone { result ≡ gone_with self.old.names name }
     {
-        one_less(&mut self.names, name)
+        self.names.one_less(name)
     }
 
     /// A name goes, where it is there. Returns its voucher.
@@ -145,7 +145,7 @@ impl Member {
         ensures less { self.new ≡ record self.old { names = desks.without_name self.old.names name } }
         ensures gone { result ≡ numbers_at self.old.names name }
     {
-        without(&mut self.names, name)
+        self.names.without(name)
     }
 
     /// One message more at the end.

@@ -10,8 +10,11 @@ returns-then-index-name c =
     let inside : c.loop-i.i < length c.loop-i.names.items = omega arith in
     let same : c.index_mut.result.now ≡ c.index.result.now = grind (arith, common_steps) in
     let counted : c.in_ok-refs.refs ≡ c.index_mut.result.now.refs + 1 = grind (arith, common_steps) in
-    ap (λ k. set c.loop-i.names.items c.loop-i.i (record (c.index_mut.result.now) { refs = k })) counted
-    ∙ more_at_place c.loop-i.names.items c.loop-i.i c.args.name c.index_mut.result.now inside c.index_mut.ensures.value
-    (ap (λ (n : Named). n.name) same ∙ c.if-index-name.true)
-    c.loop-i.invariant.rest
-    ∙ ap (λ l. desks.one_more l c.args.name) c.loop-i.invariant.same
+    record {
+      more = ap (λ k. set c.loop-i.names.items c.loop-i.i (record (c.index_mut.result.now) { refs = k })) counted
+          ∙ more_at_place c.loop-i.names.items c.loop-i.i c.args.name c.index_mut.result.now inside c.index_mut.ensures.value
+          (ap (λ (n : Named). n.name) same ∙ c.if-index-name.true)
+          c.loop-i.invariant.rest
+          ∙ ap (λ l. desks.one_more l c.args.name) c.loop-i.invariant.same;
+      kept = tt;
+    }
