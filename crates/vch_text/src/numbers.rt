@@ -25,17 +25,25 @@ fn digits(word: &[u8]) -> Option<u64>
     Some(n)
 }
 
-/// The number that a word spells, of any size: one above 4294967295 is read as `TOP`. There is none
-/// exactly where the word is no numeral: `0`, or digits that do not begin with `0`.
+/// The number that a word spells, or the top where it is above.
 #[tactic(auto, unfolding(crate::specs::Numbers::number_of))]
-pub fn number(word: &[u8]) -> Option<u64>
-    ensures { Finds (λ n. n) result (numbers.number_of top word.now) }
+fn bounded(word: &[u8]) -> Option<u64>
+    ensures told { Finds (λ n. n) result (numbers.number_of top word.now) }
+    ensures small { IfSome result (λ n. n ≤ 4294967296) }
 {
     match word {
         [] => None,
         [b'0', _, ..] => None,
         _ => digits(word),
     }
+}
+
+/// The number that a word spells, of any size: one above 4294967295 is read as `TOP`. There is none
+/// exactly where the word is no numeral: `0`, or digits that do not begin with `0`.
+pub fn number(word: &[u8]) -> Option<u64>
+    ensures { Finds (λ n. n) result (numbers.number_of top word.now) }
+{
+    bounded(word)
 }
 
 /// The number that the next word of a line spells, by `number`, and what is left behind it.
@@ -116,15 +124,18 @@ pub fn parse_u64(word: &[u8]) -> Option<u64>
     }
 }
 
+/// The number that a word spells, where it has at most 32 bits.
+fn short_number(word: &[u8]) -> Option<u32>
+    ensures { numbers.IsExact 4294967296 (numbers.number_of top word.now) result }
+{
+    let n = bounded(word)?;
+    if n < TOP { Some(n as u32) } else { None }
+}
+
 /// The number below 2 to the 32 that a word spells, as `parse_u128` for 32 bits.
 pub fn parse_u32(word: &[u8]) -> Option<u32>
     ensures found { IfSome result (λ n. word.now ≡ decimal n) }
     ensures only { (n : ℕ) → n < 2 ^ 32 → word.now ≡ decimal n → result ≡ Some n }
 {
-    let n = parse_u128(word)?;
-    if n <= u32::MAX as u128 {
-        Some(n as u32)
-    } else {
-        None
-    }
+    short_number(word)
 }
