@@ -8,3 +8,6 @@ pub mod Roomier
 pub mod Happens
 pub mod Follows
 pub mod Ends
+pub mod Handed
+pub mod Receipts
+pub mod Answered

@@ -4,3 +4,4 @@ pub mod Flights
 pub mod Bounds
 pub mod Previous
 pub mod Loses
+pub mod There

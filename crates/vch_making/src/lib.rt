@@ -25,5 +25,6 @@ mod question;
 mod refusing;
 
 pub use ending::{end_frame, let_all_go, word_of};
+pub use making::make;
 pub use question::{Question, content_at};
 pub use refusing::{out_of_memory, refuse};

@@ -49,7 +49,7 @@ not_core false m k r a e p q = cc
 no_redeem : (version : ℕ) (names : ℕ → Option Voucher) (r : Recipe) → asks version names r ≡ true → r.command ≢ commands.AUTO_REDEEM
 no_redeem version names r e q = not_core _ (is_managers r.command) _ (r.command == commands.REDEEM) _ e (ap is_managers q) (ap (λ c. c == commands.REDEEM) q)
 
-asks_here : (version : ℕ) (names : List machine.Named) (r : Recipe) (rest : List ℕ) → first_next version names (One r rest) ≡ kinds.Make → asks version (known_name names) r ≡ true
+pub asks_here : (version : ℕ) (names : List machine.Named) (r : Recipe) (rest : List ℕ) → first_next version names (One r rest) ≡ kinds.Make → asks version (known_name names) r ≡ true
 asks_here version names r rest e = by (asks version (known_name names) r) e
   where
     by : (b : Bool) → (if b then kinds.Make else kinds.Work) ≡ kinds.Make → b ≡ true
