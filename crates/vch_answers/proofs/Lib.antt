@@ -1,2 +1,3 @@
 pub mod answered
+pub mod named
 pub mod CallerLemmas

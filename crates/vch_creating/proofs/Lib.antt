@@ -1,3 +1,4 @@
 pub mod forming
 pub mod beginning
+pub mod telling
 pub mod placed

@@ -22,11 +22,15 @@
 mod change;
 mod creates;
 mod drops;
+mod extracting;
 mod naming;
+mod reciting;
 mod record;
 mod working;
 
 pub use creates::begin_create;
 pub use drops::begin_drop;
+pub use extracting::begin_extract;
 pub use naming::place_create;
+pub use reciting::begin_recipes;
 pub use working::work;

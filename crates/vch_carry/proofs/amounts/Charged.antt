@@ -32,10 +32,10 @@ use Rattle.vch_replies.specs.Replied.{paid_by, charge_told}
 use Rattle.vch_replies.specs.Told.{handle_in, live_in}
 use Rattle.vch_replies.proofs.CallerLemmas.{charge_reply, charge_left}
 use Rattle.vch_answers.specs.Answered.{Answers, Begins}
-use Rattle.vch_answers.proofs.CallerLemmas.{Moment, begin_follows, answer_room}
+use Rattle.vch_answers.proofs.CallerLemmas.{Moment, begin_follows, answer_room, named_is}
 use Rattle.vch_carry.specs.Amounts.{Notes, handle_of, handle_or, named_handle}
 use Rattle.vch_carry.proofs.amounts.Told.{calls_here}
-use Rattle.vch_carry.proofs.amounts.Named.{Found, found, named_is}
+use Rattle.vch_carry.proofs.amounts.Named.{Found, found}
 use Rattle.vch_carry.proofs.amounts.Noted.{SameButDues}
 use Rattle.vch_carry.proofs.amounts.Counted.{same_live, same_key_parts, due_same}
 use Rattle.vch_carry.proofs.amounts.Begun.{due_answered}

@@ -34,10 +34,10 @@ use Rattle.vch_replies.specs.Replied.{changed, done_or, extern_told}
 use Rattle.vch_replies.specs.Told.{handle_in, live_in}
 use Rattle.vch_replies.proofs.CallerLemmas.{extern_reply, extern_left}
 use Rattle.vch_answers.specs.Answered.{Answers, Begins}
-use Rattle.vch_answers.proofs.CallerLemmas.{Moment, begin_follows, answer_room}
+use Rattle.vch_answers.proofs.CallerLemmas.{Moment, begin_follows, answer_room, named_is}
 use Rattle.vch_carry.specs.Amounts.{Notes, handle_of, handle_or, named_handle, recounted_by}
 use Rattle.vch_carry.proofs.amounts.Told.{calls_here}
-use Rattle.vch_carry.proofs.amounts.Named.{Found, found, named_is}
+use Rattle.vch_carry.proofs.amounts.Named.{Found, found}
 use Rattle.vch_carry.proofs.amounts.Noted.{SameLive, SameButDues}
 use Rattle.vch_carry.proofs.amounts.Begun.{due_answered}
 use Rattle.vch_carry.proofs.amounts.Noting.{noted_scenario, noted_plain, refused_follows}

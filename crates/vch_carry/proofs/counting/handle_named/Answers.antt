@@ -1,7 +1,7 @@
 use Rattle.std.proofs.Common.{sym, ◌∙◌, ap}
 use Rattle.vch_table.specs.Indices.{index_at}
 use Rattle.vch_parts.proofs.CallerLemmas.{desk_inside}
-use Rattle.vch_carry.proofs.amounts.Named.{entry_named}
+use Rattle.vch_answers.proofs.CallerLemmas.{entry_named}
 use Rattle.vch_carry.proofs.counting.handle_named.Goals as goal
 
 pub voucher-requires : goal.voucher-requires

@@ -1,0 +1,15 @@
+use Rattle.std.proofs.Common.{refl, false}
+use Rattle.vch_model.specs.declared.call.Call.TheVariants as calls
+use Rattle.vch_model.specs.declared.call.Word.TheVariants as words
+use Rattle.vch_answers.proofs.CallerLemmas.{answer_room, answer_follows}
+use Rattle.vch_creating.proofs.telling.Recited.{recipes_reply_told}
+use Rattle.vch_creating.proofs.reciting.answer_recipes.Goals as goal
+
+pub answer-requires-clause-room : goal.answer-requires-clause-room
+answer-requires-clause-room c = answer_room c.args.parts.now c.args.task (calls.Recipes c.args.name) c.requires.reached c.requires.task c.requires.begins false c.args.reply
+    (recipes_reply_told c.args.parts.now c.args.task c.requires.task c.args.name c.args.reply c.requires.told)
+
+pub returns : goal.returns
+returns c = answer_follows c.args.parts.now c.args.task (calls.Recipes c.args.name) c.requires.reached c.requires.task c.requires.begins false c.args.reply
+    (recipes_reply_told c.args.parts.now c.args.task c.requires.task c.args.name c.args.reply c.requires.told)
+    c.answer.new.parts words.Recipes refl refl c.answer.ensures
