@@ -1,0 +1,16 @@
+pub mod Rests
+pub mod Growing
+pub mod Framed
+pub mod Quiet
+pub mod Passing
+pub mod Lowest
+pub mod Going
+pub mod Waiting
+pub mod Starting
+pub mod Turned
+pub mod Advancing
+pub mod Ending
+pub mod Finishing
+pub mod Drawing
+pub mod Driving
+pub mod Calling

@@ -1,0 +1,5 @@
+pub mod Said
+pub mod Called
+pub mod Steps
+pub mod Runs
+pub mod Turning

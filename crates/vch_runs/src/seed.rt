@@ -1,0 +1,76 @@
+ghost use Rattle.std.specs.Prelude.{◌≡◌, ◌<◌, ◌≤◌, ◌++◌, ◌∷◌, [], length};
+ghost use Rattle.vch_machine.specs.Schedules as schedules;
+ghost use Rattle.vch_runs.specs.Runs.{EndsBySeed};
+ghost use Rattle.vch_runs.specs.Turning.{AreReady, CanGo, Draws, IsDraw};
+
+use crate::ends::MOST_MOVES;
+use crate::turn::go;
+use arrayvec::ArrayVec;
+use std::alloc::Global;
+use vch_whole::Core;
+
+/// The seed behind another one, by a linear congruence modulo 2 to the 64.
+fn next_seed(seed: u64) -> u64
+    ensures { result ≡ schedules.next_seed seed }
+{
+    seed.wrapping_mul(6364136223846793005)
+        .wrapping_add(1442695040888963407)
+}
+
+/// The tasks that have a next event, in rising order.
+fn ready_tasks(core: &Core) -> ArrayVec<u32, 64>
+    ensures { AreReady core.now result.items }
+{
+    core.know();
+    let mut tasks = ArrayVec::new();
+    for task in 1..core.scenario().flags.len() as u32 + 1 {
+        if core.next_kind(task).is_some() {
+            tasks.push(task);
+        }
+    }
+    tasks
+}
+
+/// The task that the seed chooses among those that have a next event, or none where the phase ends. The seed goes on where
+/// there is one.
+fn draw(core: &Core, seed: &mut u64) -> Option<u32>
+    requires more { core.now.phase < length core.now.scenario.phases }
+    ensures draw { IsDraw core.now seed.old result seed.new }
+    ensures can { CanGo core.now result }
+{
+    core.know();
+    let tasks = ready_tasks(core);
+    if tasks.is_empty() {
+        return None;
+    }
+    *seed = next_seed(*seed);
+    let at = (*seed >> 33) as usize % tasks.len();
+    Some(tasks[at])
+}
+
+/// One move by the seed.
+fn drawn_move(core: &mut Core, alloc: Global, seed: &mut u64)
+    requires more { core.old.phase < length core.old.scenario.phases }
+    ensures { Draws seed.old seed.new core.old core.new }
+{
+    let choice = draw(core, seed);
+    go(core, alloc, choice);
+}
+
+/// Runs a core to the end by the schedule of a seed: each event is that of a task which the seed chooses among those that
+/// have one, and where none has one the phase ends. Afterwards all phases have ended.
+///
+/// A draw is the upper 31 bits of the next seed, modulo the number of those tasks, which count from the lowest. It takes
+/// the time of the events, and for each of them time linear in the number of tasks.
+pub fn drive_seed(core: &mut Core, alloc: Global, seed: u64)
+    ensures { EndsBySeed seed core.old core.new }
+{
+    core.know();
+    let mut now = seed;
+    for _move in 0..MOST_MOVES {
+        if core.ended() {
+            return;
+        }
+        drawn_move(core, alloc, &mut now);
+    }
+}
