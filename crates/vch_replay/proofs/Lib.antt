@@ -3,6 +3,5 @@ pub mod Ends
 pub mod Grammars
 pub mod Certified
 pub mod Loading
-pub mod PlainPlayed
 pub mod Played
 pub mod TwoTexts

@@ -4,4 +4,5 @@ pub mod Lines
 pub mod Loads
 pub mod TwoTexts
 pub mod Judged
+pub mod Reports
 pub mod Run

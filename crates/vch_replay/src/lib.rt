@@ -17,6 +17,7 @@ mod load;
 mod outcome;
 mod play;
 mod recipe;
+mod reports;
 mod run;
 mod steady;
 mod two_texts;

@@ -5,11 +5,12 @@ ghost use Rattle.vch_replay.specs.Loads as loads;
 ghost use Rattle.vch_model.specs.Text.{spaced};
 ghost use Rattle.vch_replay.specs.Loads.{IsSummary, count_lines, credited, ledger_lines, number_line, summary_text};
 
+use crate::reports::report_in_turn;
 use std::alloc::Global;
 use vch_base::NoMemory;
 use vch_generate::{generate, generated_is_writable};
 use vch_model::{Entry, History, Reply, TotalList};
-use vch_plain::{Played, play_plain};
+use vch_report::Report;
 use vch_text::{push_spaced, push_text};
 
 /// Which entries a line counts.
@@ -114,20 +115,20 @@ fn push_counts(out: &mut Vec<u8>, history: &History) -> Result<(), NoMemory>
     )
 }
 
-/// The summary of what was played.
-fn summary(alloc: Global, n: u64, played: &Played) -> Result<Vec<u8>, NoMemory>
-    requires tasks { length played.now.totals < 2 ^ 32 }
-    requires fits { credited played.now.totals ≤ length played.now.history.entries * 4294967295 }
-    ensures { IfOk result (λ text. text.items ≡ summary_text n played.now.history.entries played.now.totals played.now.vouchers played.now.values) }
+/// The summary of a report.
+fn summary(alloc: Global, n: u64, report: &Report) -> Result<Vec<u8>, NoMemory>
+    requires tasks { length report.now.totals < 2 ^ 32 }
+    requires fits { credited report.now.totals ≤ length report.now.history.entries * 4294967295 }
+    ensures { IfOk result (λ text. text.items ≡ summary_text n report.now.history.entries report.now.totals report.now.vouchers report.now.values) }
 {
     let mut out = Vec::new(alloc);
     push_line(&mut out, b"load", u128::from(n))?;
-    push_counts(&mut out, &played.history)?;
-    let credited = sum_of_ledgers(&played.totals, played.history.len());
+    push_counts(&mut out, &report.history)?;
+    let credited = sum_of_ledgers(&report.totals, report.history.len());
     push_line(&mut out, b"credited", credited)?;
-    push_ledgers(&mut out, &played.totals)?;
-    push_line(&mut out, b"vouchers", u128::from(played.vouchers))?;
-    push_line(&mut out, b"values", u128::from(played.values))?;
+    push_ledgers(&mut out, &report.totals)?;
+    push_line(&mut out, b"vouchers", u128::from(report.vouchers))?;
+    push_line(&mut out, b"values", u128::from(report.values))?;
     push_text(&mut out, b"end\n")?;
     Ok(out)
 }
@@ -138,6 +139,6 @@ pub fn load_text(alloc: Global, n: u64) -> Result<Vec<u8>, NoMemory>
 {
     generated_is_writable();
     let scenario = generate(alloc, n)?;
-    let played = play_plain(alloc, &scenario)?;
-    summary(alloc, n, &played)
+    let report = report_in_turn(alloc, scenario)?;
+    summary(alloc, n, &report)
 }

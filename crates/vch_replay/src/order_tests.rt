@@ -1,16 +1,16 @@
 //! Runs in an order of single events.
 ghost use Rattle.std.specs.Prelude.{◌≡◌, IfOk};
 ghost use Rattle.vch_model.specs.Canonical.{IsWritable};
-ghost use Rattle.vch_model.specs.UserOnly.{IsUserOnly};
 
 use std::alloc::Global;
 use std::test::Fail;
 use vch_base::Kind;
-use vch_core::{Stepped, are_tasks, drive, finish, is_user_only, step};
 use vch_model::Scenario;
 use vch_plain::play_plain;
-use vch_report::report_of;
-use vch_state::Core;
+use vch_report::report_of_run;
+use vch_runs::{Stepped, are_tasks, drive, finish, step};
+use vch_script::Script;
+use vch_whole::Core;
 
 /// A scenario, the order of its first events, and the report that it must come to.
 struct Row {
@@ -53,37 +53,41 @@ fn scenario_of(alloc: Global, bytes: &[u8]) -> Result<Scenario, Fail>
     }
 }
 
-/// A core after an order of events.
-fn driven(alloc: Global, scenario: &Scenario, order: &[u32]) -> Result<Core, Fail>
-    requires built { IsUserOnly scenario.now }
-    requires writable { IsWritable scenario.now }
-    ensures { IfOk result (λ core. core.scenario ≡ scenario.now) }
+/// A core at the start of a scenario.
+fn start(alloc: Global, scenario: Scenario) -> Result<Core, Fail>
+    requires writable { IsWritable scenario }
+    ensures { IfOk result (λ core. core.scenario ≡ scenario) }
 {
-    let mut core = Core::start(alloc, scenario)?;
+    let script = Script::new(alloc, scenario)?;
+    Ok(Core::start(alloc, script)?)
+}
+
+/// A core after an order of events.
+fn driven(alloc: Global, scenario: Scenario, order: &[u32]) -> Result<Core, Fail>
+    requires writable { IsWritable scenario }
+    ensures { IfOk result (λ core. core.scenario ≡ scenario) }
+{
+    let mut core = start(alloc, scenario)?;
     if !are_tasks(&core, order) {
         return Err(Fail::new("not an order of tasks"));
     }
-    drive(&mut core, order);
+    drive(&mut core, alloc, order);
     Ok(core)
 }
 
 /// The report after the rest of a run, in turn.
 fn finished(alloc: Global, core: &mut Core) -> Result<Vec<u8>, Fail>
-    requires built { IsUserOnly core.old.scenario }
     requires writable { IsWritable core.old.scenario }
 {
-    finish(core);
-    let report = report_of(alloc, core)?;
+    finish(core, alloc);
+    let report = report_of_run(alloc, core)?;
     Ok(vch_report::write(alloc, &report)?)
 }
 
 /// The report after an order of events, and the rest in turn.
-fn ordered(alloc: Global, scenario: &Scenario, order: &[u32]) -> Result<Vec<u8>, Fail>
-    requires { IsWritable scenario.now }
+fn ordered(alloc: Global, scenario: Scenario, order: &[u32]) -> Result<Vec<u8>, Fail>
+    requires { IsWritable scenario }
 {
-    if !is_user_only(scenario) {
-        return Err(Fail::new("not only creates and drops"));
-    }
     let mut core = driven(alloc, scenario, order)?;
     finished(alloc, &mut core)
 }
@@ -93,7 +97,7 @@ fn worked_orders(rt: HostRuntime) -> Result<(), Fail> {
     let alloc = rt.alloc();
     for row in ROWS {
         let scenario = scenario_of(alloc, row.scenario)?;
-        let report = ordered(alloc, &scenario, row.order)?;
+        let report = ordered(alloc, scenario, row.order)?;
         assert_eq!(rt; report.as_slice(), row.report.as_bytes());
     }
     Ok(())
@@ -136,26 +140,26 @@ const STEPS: &[(u32, Kind)] = &[
 ];
 
 /// One step of a task.
-fn step_of(core: &mut Core, task: u32) -> Result<Stepped, Fail> {
-    if !is_user_only(core.scenario()) || !are_tasks(core, &[task]) {
-        return Err(Fail::new("not a task of creates and drops"));
+fn step_of(alloc: Global, core: &mut Core, task: u32) -> Result<Stepped, Fail> {
+    if !are_tasks(core, &[task]) {
+        return Err(Fail::new("not a task"));
     }
-    Ok(step(core, task))
+    Ok(step(core, alloc, task))
 }
 
 #[test]
 fn steps_of_the_race(rt: HostRuntime) -> Result<(), Fail> {
     let alloc = rt.alloc();
     let scenario = scenario_of(alloc, ROWS[0].scenario)?;
-    let mut core = Core::start(alloc, &scenario)?;
+    let mut core = start(alloc, scenario)?;
     for (task, kind) in STEPS {
-        let Stepped::Went { did, .. } = step_of(&mut core, *task)? else {
+        let Stepped::Went { did, .. } = step_of(alloc, &mut core, *task)? else {
             return Err(Fail::new("no step"));
         };
         assert!(rt; did == *kind);
     }
-    assert!(rt; step_of(&mut core, 1)? == Stepped::PhaseEnd);
+    assert!(rt; step_of(alloc, &mut core, 1)? == Stepped::PhaseEnd);
     assert!(rt; core.next_phase());
-    assert!(rt; step_of(&mut core, 1)? == Stepped::Ended);
+    assert!(rt; step_of(alloc, &mut core, 1)? == Stepped::Ended);
     Ok(())
 }

@@ -1,8 +1,0 @@
-use Rattle.vch_replay.proofs.PlainPlayed.{turn_ends, plain_turn_ok}
-use Rattle.vch_replay.proofs.play.plain_turn_text.Goals as goal
-
-pub played_text-requires-clause-ran : goal.played_text-requires-clause-ran
-played_text-requires-clause-ran c = turn_ends c.args.scenario.now c.in_ok-played.played.history.entries c.in_ok-played.ensures.history
-
-pub returns : goal.returns
-returns c = plain_turn_ok c.args.scenario.now c.in_ok-played.played c.played_text.result c.in_ok-played.ensures.history c.played_text.ensures
