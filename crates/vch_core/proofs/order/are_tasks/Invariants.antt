@@ -1,7 +1,0 @@
-use Rattle.std.proofs.Common.{◌≡◌, true}
-use Rattle.vch_model.specs.Lines.{is_task}
-use Rattle.vch_core.proofs.Rests.{AllRest}
-use Rattle.vch_core.proofs.order.are_tasks.Given as goal
-
-abbrev pub invariant-loop-i : goal.invariant-loop-i
-invariant-loop-i l = AllRest (λ t. is_task l.core.scenario t ≡ true) l.order l.i

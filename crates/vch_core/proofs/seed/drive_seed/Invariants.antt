@@ -1,5 +1,0 @@
-use Rattle.vch_core.proofs.Finishing.{Drawing}
-use Rattle.vch_core.proofs.seed.drive_seed.Given as goal
-
-abbrev pub invariant-loop-move : goal.invariant-loop-move
-invariant-loop-move l = Drawing l.seed l.initial.core l.core l.now l._move

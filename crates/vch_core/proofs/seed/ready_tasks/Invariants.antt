@@ -1,5 +1,0 @@
-use Rattle.vch_core.proofs.Drawing.{ReadyBelow}
-use Rattle.vch_core.proofs.seed.ready_tasks.Given as goal
-
-abbrev pub invariant-loop-task : goal.invariant-loop-task
-invariant-loop-task l = ReadyBelow l.core l.task l.tasks.items

@@ -1,5 +1,0 @@
-use Rattle.vch_core.proofs.Lowest.{NoneBelow}
-use Rattle.vch_core.proofs.turn.lowest_frame.Given as goal
-
-abbrev pub invariant-loop-task : goal.invariant-loop-task
-invariant-loop-task l = NoneBelow l.core.frames l.task

@@ -1,5 +1,0 @@
-use Rattle.vch_core.proofs.Starting.{Started}
-use Rattle.vch_core.proofs.turn.start_cursor.Given as goal
-
-abbrev pub invariant-loop-i : goal.invariant-loop-i
-invariant-loop-i l = Started l.core.scenario l.cursor l.i

@@ -1,9 +1,0 @@
-use Rattle.std.proofs.Common.{sym, subst}
-use Rattle.vch_core.specs.Turning.{IsCursor}
-use Rattle.vch_core.proofs.Advancing.{cursor_after}
-use Rattle.vch_core.proofs.turn.turn.Goals as goal
-
-pub returns-clause-cursor : goal.returns-clause-cursor
-returns-clause-cursor c =
-    subst (IsCursor c.go.new.core) (sym c.rewind.ensures)
-    (cursor_after c.args.core.now c.go.new.core c.next_turn-choice.result c.next_turn-choice.new.cursor c.know.ensures c.next_turn-choice.ensures.cursor c.next_turn-choice.ensures.passed c.go.ensures)

@@ -1,7 +1,0 @@
-use Rattle.std.proofs.Common.{◌≡◌, None, subst}
-use Rattle.vch_table.specs.Indices.{index_at}
-use Rattle.vch_state.proofs.CallerLemmas.{room_for}
-use Rattle.vch_create.proofs.change.put.Goals as goal
-
-pub set-requires : goal.set-requires
-set-requires c some none = room_for c.args.map.now c.args.key c.requires.keyed (subst (λ n. index_at c.args.map.now n ≡ None) c.number.ensures none)

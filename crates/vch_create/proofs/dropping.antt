@@ -1,4 +1,0 @@
-pub mod NamesLess
-pub mod SlotsLess
-pub mod Dropped
-pub mod DropEvent

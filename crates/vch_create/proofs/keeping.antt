@@ -1,9 +1,0 @@
-pub mod OneTask
-pub mod Items
-pub mod Quiet
-pub mod Own
-pub mod Roomier
-pub mod Slots
-pub mod Vouchers
-pub mod Kept
-pub mod Still

@@ -1,6 +1,0 @@
-pub mod Giving
-pub mod NameLists
-pub mod Tables
-pub mod Placed
-pub mod References
-pub mod PlaceEvent

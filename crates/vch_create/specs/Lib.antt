@@ -1,9 +1,0 @@
-pub mod Beginnings
-pub mod Formed
-pub mod Refusals
-pub mod Works
-pub mod Carried
-pub mod Demands
-pub mod Gives
-pub mod Drops
-pub mod Called
