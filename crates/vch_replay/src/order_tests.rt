@@ -7,7 +7,7 @@ use std::test::Fail;
 use vch_base::Kind;
 use vch_model::Scenario;
 use vch_plain::play_plain;
-use vch_report::report_of_run;
+use vch_report::report_of;
 use vch_runs::{Stepped, are_tasks, drive, finish, step};
 use vch_script::Script;
 use vch_whole::Core;
@@ -80,7 +80,7 @@ fn finished(alloc: Global, core: &mut Core) -> Result<Vec<u8>, Fail>
     requires writable { IsWritable core.old.scenario }
 {
     finish(core, alloc);
-    let report = report_of_run(alloc, core)?;
+    let report = report_of(alloc, core)?;
     Ok(vch_report::write(alloc, &report)?)
 }
 

@@ -9,7 +9,7 @@ ghost use Rattle.vch_replay.specs.Reports.{IsInTurnReport, IsBySeedReport};
 use std::alloc::Global;
 use vch_base::NoMemory;
 use vch_model::Scenario;
-use vch_report::{Report, report_of_run};
+use vch_report::{Report, report_of};
 use vch_runs::{drive_seed, finish};
 use vch_script::Script;
 use vch_whole::Core;
@@ -32,7 +32,7 @@ pub fn report_in_turn(alloc: Global, scenario: Scenario) -> Result<Report, NoMem
 {
     let mut core = start(alloc, scenario)?;
     finish(&mut core, alloc);
-    report_of_run(alloc, &core)
+    report_of(alloc, &core)
 }
 
 /// The report of a scenario's run by the schedule of a seed.
@@ -43,5 +43,5 @@ pub fn report_by_seed(alloc: Global, scenario: Scenario, seed: u64) -> Result<Re
 {
     let mut core = start(alloc, scenario)?;
     drive_seed(&mut core, alloc, seed);
-    report_of_run(alloc, &core)
+    report_of(alloc, &core)
 }

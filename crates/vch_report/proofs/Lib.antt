@@ -2,5 +2,4 @@ pub mod words
 pub mod items
 pub mod wholes
 pub mod from_core
-pub mod from_parts
 pub mod CallerLemmas

@@ -1,3 +1,3 @@
 pub mod Histories
-pub mod CoreTotals
+pub mod EachTotal
 pub mod CoreReports

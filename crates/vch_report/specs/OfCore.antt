@@ -1,9 +1,8 @@
 -- What the report of a core tells.
-use Rattle.std.specs.Prelude.{◌≡◌, ℕ, zero, suc, ◌≤◌, List, [], ◌∷◌, length, reverse}
+use Rattle.std.specs.Prelude.{◌≡◌, ◌≤◌, List, length, reverse}
 use Rattle.vch_base.specs.declared.value.Value.{Value}
 use Rattle.vch_base.specs.declared.value.Value.TheVariants as values
 use Rattle.vch_model.specs.declared.entry.Entry.{Entry}
-use Rattle.vch_model.specs.declared.total.Total.{Total}
 use Rattle.vch_model.specs.declared.lists.Scenario.{Scenario}
 use Rattle.vch_model.specs.After.{store_of}
 use Rattle.vch_model.specs.Text.{totals_of, vouchers_in, values_in}
@@ -16,15 +15,6 @@ pub record Tells (sc : Scenario) (history : List Entry) (report : Report) : Type
   pub totals : report.totals ≡ totals_of sc (reverse history)
   pub vouchers : report.vouchers ≡ vouchers_in (store_of sc (reverse history))
   pub values : report.values ≡ values_in (store_of sc (reverse history))
-
--- a task that has no assertion and no charge
-abbrev pub no_total : Total
-no_total = record { ledger = 0; held = 0; out = 0 }
-
--- so many of them
-abbrev pub no_totals : ℕ → List Total
-no_totals zero = []
-no_totals (suc n) = no_total ∷ no_totals n
 
 -- What a copy of an entry needs.
 

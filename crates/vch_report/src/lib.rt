@@ -11,11 +11,9 @@
 //! text is a report's or has one first line that can't stand (`one_answer`), and `read` answers
 //! just that.
 //!
-//! A [`Core`](vch_state::Core) whose phases have ended has a report, which [`report_of`] makes: its
-//! own history, what lives at its end, and totals of zeros, since it runs creates and drops of user
-//! data only.
-//! A [`Core`](vch_whole::Core) of any scenario has one too, which [`report_of_run`] makes: its totals
-//! are read from the managers, and are what the history adds up.
+//! A [`Core`](vch_whole::Core) whose phases have ended has a report, which [`report_of`] makes: its
+//! own history, what lives at its end, and totals that are read from the managers and are what the
+//! history adds up.
 //!
 //! ```text
 //! let report = report_of(alloc, &core)?;       // of a run that has ended
@@ -24,6 +22,7 @@
 //! ```
 #![tactic(auto)]
 
+mod copies;
 mod draft;
 mod fault;
 mod item;
@@ -31,7 +30,6 @@ mod laws;
 mod lines;
 mod numerals;
 mod of_core;
-mod of_parts;
 mod reader;
 mod replies;
 mod report;
@@ -41,7 +39,6 @@ mod writer;
 pub use fault::ReportFault;
 pub use laws::{legal_reports, one_answer, one_text};
 pub use of_core::report_of;
-pub use of_parts::report_of_run;
 pub use reader::read;
 pub use report::Report;
 pub use vch_model::{Total, TotalList};

@@ -5,7 +5,6 @@ use Rattle.std.specs.List.{AllByRecursion}
 use Rattle.vch_model.specs.Rows.{Entries}
 use Rattle.vch_model.specs.declared.entry.Entry.{Entry}
 use Rattle.vch_legal.specs.Reports.{IsByteEntry}
-use Rattle.vch_report.specs.OfCore.{no_total, no_totals}
 
 -- so many entries were copied, and there is room for the others
 pub record Copied (entries : List Entry) (i : ℕ) (made : Entries) : Type 0 where
@@ -37,10 +36,3 @@ copied_next entries i made new x y c e same bytes q room = record {
   bytes = subst (AllByRecursion IsByteEntry) (sym q) (all_more IsByteEntry made.entries y c.bytes bytes);
   room = let r : length entries ≤ made.spare + i = c.room in omega (arith, r, room);
 }
-
-pub totals_next : (n : ℕ) → no_totals n ++ no_total ∷ [] ≡ no_totals (n + 1)
-totals_next n = next n ∙ ap no_totals (one_more n)
-  where
-    next : (n : ℕ) → no_totals n ++ no_total ∷ [] ≡ no_totals (suc n)
-    next zero = refl
-    next (suc n) = ap (λ t. no_total ∷ t) (next n)

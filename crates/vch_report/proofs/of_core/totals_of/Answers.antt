@@ -1,7 +1,7 @@
 use Rattle.std.proofs.Common.{◌≡◌, ◌+◌, arith, length, sym, ap, ◌∙◌, subst}
 use Rattle.vch_model.specs.declared.lists.Scenario.{Scenario}
-use Rattle.vch_report.proofs.from_parts.EachTotal.{Totalled, totalled_more}
-use Rattle.vch_report.proofs.of_parts.totals_of.Goals as goal
+use Rattle.vch_report.proofs.from_core.EachTotal.{Totalled, totalled_more}
+use Rattle.vch_report.proofs.of_core.totals_of.Goals as goal
 
 pub loop-task-preserved : goal.loop-task-preserved
 loop-task-preserved c =

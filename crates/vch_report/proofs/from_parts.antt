@@ -1,2 +1,0 @@
-pub mod EachTotal
-pub mod PartReports

@@ -1,5 +1,0 @@
-use Rattle.vch_report.proofs.from_parts.EachTotal.{Totalled}
-use Rattle.vch_report.proofs.of_parts.totals_of.Given as goal
-
-abbrev pub invariant-loop-task : goal.invariant-loop-task
-invariant-loop-task l = Totalled l.core l.task l.made
