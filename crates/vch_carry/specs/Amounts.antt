@@ -6,7 +6,7 @@ use Rattle.vch_base.specs.Keyed.{Keyed, of_key}
 use Rattle.vch_model.specs.declared.call.Word.{Word}
 use Rattle.vch_model.specs.declared.entry.Entry.TheVariants as entries
 use Rattle.vch_model.specs.declared.entry.Reply.{Reply}
-use Rattle.vch_state.specs.Shape.{index_of}
+use Rattle.vch_frame.specs.Indices.{index_of}
 use Rattle.vch_values.specs.Parts.{KeyParts}
 use Rattle.vch_vouchers.specs.Desks.{Voucher, desk, voucher_of}
 use Rattle.vch_parts.specs.declared.parts.Parts.{Parts}

@@ -1,14 +1,14 @@
 ghost use Rattle.std.specs.Prelude.{◌≡◌, ◌≤◌, ◌<◌, ◌^◌, Some, IfSome, IsSome, length};
 ghost use Rattle.vch_base.specs.Keyed.{of_key, with_key};
-ghost use Rattle.vch_state.specs.Shape.{index_of};
+ghost use Rattle.vch_frame.specs.Indices.{index_of};
 ghost use Rattle.vch_parts.specs.Framed.{begun_of, with_begun_of, with_frame_of};
 ghost use Rattle.vch_moves.specs.Shares.{SharesAt, SharesAll};
 ghost use Rattle.vch_moves.specs.Steps as steps;
 ghost use Rattle.vch_carry.specs.Carried.{MayShare, MayShareAt};
 
 use vch_base::Key;
+use vch_frame::{Claiming, Lets};
 use vch_parts::{Frame, Keys, Parts};
-use vch_state::{Claiming, Lets};
 use vch_table::Indices;
 use vch_values::Values;
 

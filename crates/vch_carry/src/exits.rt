@@ -9,9 +9,9 @@ ghost use Rattle.vch_parts.specs.Reached.{Reached, IsNext, MayFollow};
 ghost use Rattle.vch_moves.specs.Steps as steps;
 
 use crate::lets::push_voucher;
+use vch_frame::{Claiming, Lets};
 use vch_model::{Entry, Reply, Word};
 use vch_parts::{Frame, Keys, Parts};
-use vch_state::{Claiming, Lets};
 
 /// The frame of an exit, which forms no voucher.
 fn exiting_frame() -> Frame

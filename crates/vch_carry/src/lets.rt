@@ -1,8 +1,8 @@
 ghost use Rattle.std.specs.Prelude.{◌≡◌, ◌≤◌, ◌++◌, length};
 ghost use Rattle.vch_moves.specs.Desks as desks;
 
+use vch_frame::Lets;
 use vch_making::let_all_go;
-use vch_state::Lets;
 use vch_table::Indices;
 
 /// Appends the indices of a voucher, if there is one.

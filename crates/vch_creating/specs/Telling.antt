@@ -4,7 +4,7 @@ use Rattle.vch_base.specs.declared.key.Key.{Key}
 use Rattle.vch_base.specs.Keyed.{Keyed, of_key}
 use Rattle.vch_base.specs.Managers.{live_at}
 use Rattle.vch_entry.specs.Entries.{entry_at, handle_at}
-use Rattle.vch_state.specs.Shape.{index_of}
+use Rattle.vch_frame.specs.Indices.{index_of}
 use Rattle.vch_values.specs.Parts.{KeyParts}
 use Rattle.vch_parts.specs.Plain.{Indices}
 

@@ -1,14 +1,14 @@
 ghost use Rattle.std.specs.Prelude.{◌≡◌, ◌⊎◌, ◌+◌, ◌≤◌, length};
 ghost use Rattle.vch_base.specs.Keyed.{of_key};
 ghost use Rattle.vch_machine.specs.Naming.{same_handle};
-ghost use Rattle.vch_state.specs.Moves.{let_at};
-ghost use Rattle.vch_state.specs.Shape.{IsKeyed, index_of};
+ghost use Rattle.vch_frame.specs.Indices.{IsKeyed, index_of};
+ghost use Rattle.vch_frame.specs.Releases.{let_at};
 ghost use Rattle.vch_moves.specs.Works.{Changes, ChangesEach, Puts};
 ghost use Rattle.vch_creating.specs.Changing as changing;
 ghost use Rattle.vch_creating.specs.Changing.{MayDo, MayDoAll, MayShare, SharesIn, keys_in};
 
 use vch_base::Key;
-use vch_state::{KeyIndex, Lets};
+use vch_frame::{KeyIndex, Lets};
 use vch_table::Indices;
 use vch_values::Values;
 

@@ -9,9 +9,9 @@ use vch_answers::answer;
 use vch_base::Code;
 use vch_base::codes::MIG_ARRAY_TOO_LARGE;
 use vch_base::limits::ARRAY_BYTES;
+use vch_frame::{Claiming, Lets};
 use vch_model::{Reply, Word};
 use vch_parts::{Frame, Keys, Parts};
-use vch_state::{Claiming, Lets};
 use vch_table::Indices;
 
 /// The answer to a create that needs no frame.

@@ -12,10 +12,10 @@ ghost use Rattle.vch_answers.specs.Answered.{Begins};
 
 use vch_base::Code;
 use vch_base::codes::KERN_INVALID_NAME;
+use vch_frame::{Claiming, Lets};
 use vch_making::let_all_go;
 use vch_model::{Entry, Reply, Word};
 use vch_parts::{Frame, Keys, Parts};
-use vch_state::{Claiming, Lets};
 use vch_table::Indices;
 
 /// The answer to a drop.

@@ -6,16 +6,16 @@ ghost use Rattle.vch_model.specs.Lines.{is_task};
 ghost use Rattle.vch_moves.specs.Works.{ChangesEach};
 ghost use Rattle.vch_parts.specs.Framed.{begun_of, frame_of};
 ghost use Rattle.vch_parts.specs.Reached.{IsNext, MayFollow, Reached};
-ghost use Rattle.vch_state.specs.Shape.{IsKeyed};
+ghost use Rattle.vch_frame.specs.Indices.{IsKeyed};
 ghost use Rattle.vch_creating.specs.Carried.{IsCreate, MayChange, ReadsNext, becoming, keys_of};
 
 use crate::change::{Change, change_keys};
 use crate::record::{INVALID, Record, read_record};
 use vch_base::Code;
+use vch_frame::Lets;
 use vch_making::refuse;
 use vch_model::Call;
 use vch_parts::Parts;
-use vch_state::Lets;
 use vch_table::Indices;
 use vch_values::Values;
 

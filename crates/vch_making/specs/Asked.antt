@@ -8,7 +8,7 @@ use Rattle.vch_recipe.specs.Recipes.{First, One, first_of}
 use Rattle.vch_model.specs.declared.call.Call.{Call}
 use Rattle.vch_model.specs.declared.call.Call.TheVariants as calls
 use Rattle.vch_machine.specs.Making.{head_key, keys_left}
-use Rattle.vch_state.specs.Shape.{index_of}
+use Rattle.vch_frame.specs.Indices.{index_of}
 use Rattle.vch_vouchers.specs.Desks.{Named, voucher_of}
 use Rattle.vch_parts.specs.Plain.{Indices}
 use Rattle.vch_making.specs.declared.question.Question.{Question}

@@ -9,8 +9,8 @@ use Rattle.vch_base.specs.Managers.{Handed}
 use Rattle.vch_value.specs.Flight.{Receipt}
 use Rattle.vch_model.specs.declared.entry.Entry.TheVariants as entries
 use Rattle.vch_model.specs.declared.call.Call.{Call}
-use Rattle.vch_state.specs.Moves.{let_at}
-use Rattle.vch_state.specs.Shape.{index_of}
+use Rattle.vch_frame.specs.Indices.{index_of}
+use Rattle.vch_frame.specs.Releases.{let_at}
 use Rattle.vch_values.specs.Parts.{KeyParts, number_at}
 use Rattle.vch_parts.specs.declared.parts.Parts.{Parts}
 use Rattle.vch_parts.specs.Moves.{moved_on}

@@ -1,14 +1,14 @@
 ghost use Rattle.std.specs.Prelude.{◌≡◌, ◌≤◌, ◌<◌, ◌++◌, length};
 ghost use Rattle.vch_model.specs.Words as words;
-ghost use Rattle.vch_state.specs.Moves.{let_at};
-ghost use Rattle.vch_state.specs.Shape.{index_of};
+ghost use Rattle.vch_frame.specs.Indices.{index_of};
+ghost use Rattle.vch_frame.specs.Releases.{let_at};
 ghost use Rattle.vch_moves.specs.Desks.{items, option_items};
 ghost use Rattle.vch_moves.specs.Steps.{ended};
 
 use vch_base::Key;
+use vch_frame::{KeyIndex, Lets};
 use vch_model::{Call, Word};
 use vch_parts::{Frame, Keys};
-use vch_state::{KeyIndex, Lets};
 use vch_table::Indices;
 
 /// The word of a call, as its entry has it.

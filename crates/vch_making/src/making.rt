@@ -15,9 +15,9 @@ use crate::losing::lose;
 use crate::question::Question;
 use crate::refusing::{out_of_memory, refuse};
 use vch_base::{Chain, GetFault, Key, Value};
+use vch_frame::KeyReceipt;
 use vch_model::Entry;
 use vch_parts::Parts;
-use vch_state::KeyReceipt;
 use vch_value::{Made, Receipt};
 
 /// A list of tasks that is the same. At most eight steps.

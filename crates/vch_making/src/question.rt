@@ -4,7 +4,7 @@ ghost use Rattle.vch_model.specs.Lines.{is_task};
 ghost use Rattle.vch_machine.specs.Making as making;
 ghost use Rattle.vch_machine.specs.Next.{nth_call};
 ghost use Rattle.vch_recipe.specs.Recipes.{first_of};
-ghost use Rattle.vch_state.specs.Shape.{index_of};
+ghost use Rattle.vch_frame.specs.Indices.{index_of};
 ghost use Rattle.vch_vouchers.specs.Desks.{desk};
 ghost use Rattle.vch_parts.specs.Framed.{frame_of, begun_of};
 ghost use Rattle.vch_parts.specs.Reached.{Reached};

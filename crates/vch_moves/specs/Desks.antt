@@ -7,9 +7,9 @@ use Rattle.vch_base.specs.Keys.{every_key}
 use Rattle.vch_entry.specs.Entries.{IsApart}
 use Rattle.vch_vouchers.specs.Desks as desks
 use Rattle.vch_vouchers.specs.Desks.{Desk, is_known}
-use Rattle.vch_state.specs.declared.frame.KeyIndex.{KeyIndex}
-use Rattle.vch_state.specs.Moves.{let_at}
-use Rattle.vch_state.specs.Shape.{index_of}
+use Rattle.vch_frame.specs.declared.frame.KeyIndex.{KeyIndex}
+use Rattle.vch_frame.specs.Indices.{index_of}
+use Rattle.vch_frame.specs.Releases.{let_at}
 use Rattle.vch_values.specs.Parts.{KeyParts}
 use Rattle.vch_parts.specs.Plain.{Indices, Part}
 use Rattle.vch_parts.specs.Shape.{slots_of}

@@ -5,7 +5,7 @@ use Rattle.vch_base.specs.Keyed.{Keyed, of_key}
 use Rattle.vch_base.specs.Managers.{Kept, count}
 use Rattle.vch_entry.specs.Entries.{entry_at, handle_at, Writes, more_refs}
 use Rattle.vch_value.specs.Picture.{Picture, Depicts, shared_picture}
-use Rattle.vch_state.specs.Shape.{index_of}
+use Rattle.vch_frame.specs.Indices.{index_of}
 use Rattle.vch_values.specs.Parts.{KeyParts}
 use Rattle.vch_parts.specs.Plain.{Indices}
 

@@ -13,8 +13,8 @@ use Rattle.vch_model.specs.Replies.{refused}
 use Rattle.vch_model.specs.Words.{word_of}
 use Rattle.vch_machine.specs.Beginning as begins
 use Rattle.vch_machine.specs.State.{Machine, Tasked, tasked, with_tasked}
-use Rattle.vch_state.specs.declared.frame.Claiming.{Claiming}
-use Rattle.vch_state.specs.declared.frame.KeyIndex.{KeyIndex}
+use Rattle.vch_frame.specs.declared.frame.Claiming.{Claiming}
+use Rattle.vch_frame.specs.declared.frame.KeyIndex.{KeyIndex}
 use Rattle.vch_values.specs.Parts.{KeyParts}
 use Rattle.vch_parts.specs.declared.frame.Frame.{Frame}
 use Rattle.vch_vouchers.specs.declared.answers.Message.{Message}

@@ -41,7 +41,7 @@ ghost use Rattle.vch_machine.specs.Naming.{handles_of, is_known};
 ghost use Rattle.vch_machine.specs.Next.{nth_call};
 ghost use Rattle.vch_machine.specs.Placing.{place_create, place_send, place_recv};
 ghost use Rattle.vch_machine.specs.Working.{do_gone, do_lost, do_left, changed_each};
-ghost use Rattle.vch_state.specs.Shape.{Pairwise};
+ghost use Rattle.vch_frame.specs.Pairs.{Pairwise};
 ghost use Rattle.vch_values.specs.Parts.{KeyParts};
 ghost use Rattle.vch_vouchers.specs.declared.answers.Message.{Message};
 ghost use Rattle.vch_parts.specs.declared.frame.Frame.{Frame};

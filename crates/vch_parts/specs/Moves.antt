@@ -9,10 +9,12 @@ use Rattle.vch_value.specs.Flight.{Claim, Asked}
 use Rattle.vch_table.specs.Indices.{Bounded, SetsIndex}
 use Rattle.vch_model.specs.declared.call.Call.{Call}
 use Rattle.vch_legal.specs.Tie.{moved_place, moved_keys}
-use Rattle.vch_state.specs.declared.frame.Claiming.{Claiming}
-use Rattle.vch_state.specs.declared.frame.KeyIndex.{KeyIndex}
-use Rattle.vch_state.specs.Shape.{index_of}
-use Rattle.vch_state.specs.Moves.{claiming, more_claims, one_asked, one_referred, noted_release, less_room, let_at}
+use Rattle.vch_frame.specs.declared.frame.Claiming.{Claiming}
+use Rattle.vch_frame.specs.declared.frame.KeyIndex.{KeyIndex}
+use Rattle.vch_frame.specs.Indices.{index_of}
+use Rattle.vch_frame.specs.Releases.{noted_release, less_room, let_at}
+use Rattle.vch_frame.specs.Claims.{claiming}
+use Rattle.vch_frame.specs.Tallies.{more_claims, one_asked, one_referred}
 use Rattle.vch_values.specs.Parts.{KeyParts}
 use Rattle.vch_parts.specs.declared.frame.Frame.{Frame}
 use Rattle.vch_parts.specs.Plain.{Indices, Plain, with_frame_at, closed}

@@ -14,8 +14,8 @@ use Rattle.vch_model.specs.declared.lists.Scenario.{Scenario}
 use Rattle.vch_machine.specs.Making.{tail_keys, keys_left}
 use Rattle.vch_machine.specs.Next.{nth_call}
 use Rattle.vch_machine.specs.State.{is_empty}
-use Rattle.vch_state.specs.declared.frame.KeyReceipt.{KeyReceipt}
-use Rattle.vch_state.specs.Reached.{claim_kind}
+use Rattle.vch_frame.specs.declared.frame.KeyReceipt.{KeyReceipt}
+use Rattle.vch_frame.specs.Claims.{claim_kind}
 use Rattle.vch_vouchers.specs.Desks.{Named, voucher_of}
 use Rattle.vch_parts.specs.declared.frame.Frame.{Frame}
 use Rattle.vch_parts.specs.Plain.{Indices}

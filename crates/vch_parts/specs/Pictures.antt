@@ -10,9 +10,10 @@ use Rattle.vch_value.specs.Picture.{Picture, Claimed}
 use Rattle.vch_machine.specs.Naming.{same_handles}
 use Rattle.vch_machine.specs.State as machine
 use Rattle.vch_machine.specs.State.{Handles, Place, Tasked, Machine}
-use Rattle.vch_state.specs.declared.frame.Claiming.{Claiming}
-use Rattle.vch_state.specs.declared.frame.KeyReceipt.{KeyReceipt}
-use Rattle.vch_state.specs.Pictures.{listed, sync_of, claimed}
+use Rattle.vch_frame.specs.declared.frame.Claiming.{Claiming}
+use Rattle.vch_frame.specs.declared.frame.KeyReceipt.{KeyReceipt}
+use Rattle.vch_frame.specs.Indices.{listed}
+use Rattle.vch_frame.specs.Claims.{sync_of, claimed}
 use Rattle.vch_parts.specs.declared.frame.Frame.{Frame}
 use Rattle.vch_parts.specs.Plain.{Plain, Part}
 

@@ -7,8 +7,8 @@ use Rattle.vch_vouchers.specs.Desks.{Voucher, Named}
 use Rattle.vch_vouchers.specs.declared.answers.Message.{Message}
 use Rattle.vch_model.specs.declared.entry.Entry.{Entry}
 use Rattle.vch_machine.specs.State.{is_empty}
-use Rattle.vch_state.specs.declared.tally.Tally.{Tally}
-use Rattle.vch_state.specs.Plain.{is_nothing}
+use Rattle.vch_frame.specs.declared.tally.Tally.{Tally}
+use Rattle.vch_frame.specs.Claims.{is_nothing}
 use Rattle.vch_values.specs.Parts.{KeyParts}
 use Rattle.vch_parts.specs.declared.frame.Frame.{Frame}
 

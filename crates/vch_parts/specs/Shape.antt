@@ -10,10 +10,11 @@ use Rattle.vch_model.specs.Store.{limit_of}
 use Rattle.vch_model.specs.declared.lists.Scenario.{Scenario}
 use Rattle.vch_machine.specs.State as machine
 use Rattle.vch_machine.specs.State.{Handles, Place, Tasked, Machine, tasked}
-use Rattle.vch_state.specs.Shape.{Pairwise, Optional, IsKeyed, index_of}
-use Rattle.vch_state.specs.declared.frame.Claiming.{Claiming}
-use Rattle.vch_state.specs.declared.frame.KeyIndex.{KeyIndex}
-use Rattle.vch_state.specs.declared.frame.KeyReceipt.{KeyReceipt}
+use Rattle.vch_frame.specs.Pairs.{Pairwise, Optional}
+use Rattle.vch_frame.specs.Indices.{IsKeyed, index_of}
+use Rattle.vch_frame.specs.declared.frame.Claiming.{Claiming}
+use Rattle.vch_frame.specs.declared.frame.KeyIndex.{KeyIndex}
+use Rattle.vch_frame.specs.declared.frame.KeyReceipt.{KeyReceipt}
 use Rattle.vch_values.specs.Parts.{KeyParts}
 use Rattle.vch_parts.specs.declared.frame.Frame.{Frame}
 use Rattle.vch_vouchers.specs.Desks.{Named}

@@ -14,7 +14,8 @@ use Rattle.vch_model.specs.Totals.{ledger}
 use Rattle.vch_machine.specs.State.{Machine, living_at}
 use Rattle.vch_legal.specs.ValueAmounts.{amount_of}
 use Rattle.vch_bounds.specs.Rooms.{room_of}
-use Rattle.vch_state.specs.Stands.{IsLiving, SameTally}
+use Rattle.vch_frame.specs.Tallies.{SameTally}
+use Rattle.vch_frame.specs.Living.{IsLiving}
 use Rattle.vch_values.specs.Parts.{number_at, rules_at, asked_in}
 use Rattle.vch_parts.specs.Plain.{Plain}
 use Rattle.vch_parts.specs.Shape.{Shape}

@@ -1,7 +1,7 @@
 ghost use Rattle.std.specs.Prelude.{◌≡◌, ◌≤◌, Some, IsTrue};
 ghost use Rattle.vch_base.specs.declared.kind.Kind.TheVariants as kinds;
 ghost use Rattle.vch_model.specs.Lines.{is_task};
-ghost use Rattle.vch_state.specs.Moves.{noted_release, less_room};
+ghost use Rattle.vch_frame.specs.Releases.{noted_release, less_room};
 ghost use Rattle.vch_parts.specs.Framed.{frame_of};
 ghost use Rattle.vch_parts.specs.Nexts.{value_kind};
 ghost use Rattle.vch_parts.specs.Reached.{Reached, Follows};
@@ -9,8 +9,8 @@ ghost use Rattle.vch_parts.specs.Reached.{Reached, Follows};
 use crate::Parts;
 use crate::tally::count_question;
 use std::mem;
+use vch_frame::Claiming;
 use vch_model::{Entry, History};
-use vch_state::Claiming;
 
 /// Appends the entry of a value that was given back, where the manager agreed. `made` is the number of its Made entry.
 fn note_release(history: &mut History, agreed: bool, made: u32)

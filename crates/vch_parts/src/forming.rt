@@ -5,7 +5,7 @@ ghost use Rattle.vch_parts.specs.Moves.{PutsIndex};
 
 use crate::Frame;
 use vch_base::Key;
-use vch_state::KeyIndex;
+use vch_frame::KeyIndex;
 
 /// Puts an index at a key of the voucher that the frame forms, or takes the key away. What stood there is to be let go of,
 /// also where the same index is put there again. At most four steps.

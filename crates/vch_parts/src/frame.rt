@@ -5,9 +5,9 @@ ghost use Rattle.vch_parts.specs.Nexts as nexts;
 
 use crate::Keys;
 use vch_base::{ALL_KEYS, Kind};
+use vch_frame::{Claiming, KeyReceipt, Lets};
 use vch_model::Call;
 use vch_recipe::{Step, next_recipe};
-use vch_state::{Claiming, KeyReceipt, Lets};
 use vch_table::Indices;
 
 /// What one call still has to do.

@@ -1,7 +1,7 @@
 ghost use Rattle.std.specs.Prelude.{◌≡◌, Some, IsTrue};
 ghost use Rattle.vch_base.specs.declared.kind.Kind.TheVariants as kinds;
 ghost use Rattle.vch_model.specs.Lines.{is_task};
-ghost use Rattle.vch_state.specs.Moves as moves;
+ghost use Rattle.vch_frame.specs.Claims as claims;
 ghost use Rattle.vch_parts.specs.Framed.{frame_of};
 ghost use Rattle.vch_parts.specs.Nexts.{value_kind};
 ghost use Rattle.vch_parts.specs.Reached.{Reached, Follows};
@@ -9,12 +9,12 @@ ghost use Rattle.vch_parts.specs.Reached.{Reached, Follows};
 use crate::Parts;
 use crate::tally::count_claim;
 use vch_base::Key;
-use vch_state::Claiming;
+use vch_frame::Claiming;
 use vch_value::Claim;
 
 /// A claim that was taken, or nothing.
 pub fn claiming(key: Key, claim: Option<Claim>) -> Claiming
-    ensures { result ≡ moves.claiming key claim }
+    ensures { result ≡ claims.claiming key claim }
 {
     match claim {
         Some(claim) => Claiming::Claimed { key, claim },

@@ -1,7 +1,7 @@
 use crate::frames::Frames;
+use vch_frame::Tally;
 use vch_model::History;
 use vch_script::Script;
-use vch_state::Tally;
 use vch_values::Values;
 use vch_vouchers::Vouchers;
 

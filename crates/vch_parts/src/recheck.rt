@@ -8,7 +8,7 @@ ghost use Rattle.vch_parts.specs.Reached.{Reached, Follows};
 use crate::Parts;
 use crate::let_go::claiming;
 use std::mem;
-use vch_state::Claiming;
+use vch_frame::Claiming;
 
 /// Recheck: the manager's answer is looked at. Where the value was made and let go of again since the claim was taken, the
 /// frame has a new claim then; else it has none.

@@ -11,9 +11,9 @@ use crate::Parts;
 use crate::frames::fresh_frames;
 use std::alloc::Global;
 use vch_base::{Flags, NoMemory};
+use vch_frame::Tally;
 use vch_model::{FlagList, History, QueueList};
 use vch_script::Script;
-use vch_state::Tally;
 use vch_values::Values;
 use vch_vouchers::Vouchers;
 

@@ -1,7 +1,7 @@
 ghost use Rattle.std.specs.Prelude.{◌≡◌, ◌<◌, ◌^◌};
-ghost use Rattle.vch_state.specs.Moves.{more_claims, one_asked, one_referred};
+ghost use Rattle.vch_frame.specs.Tallies.{more_claims, one_asked, one_referred};
 
-use vch_state::Tally;
+use vch_frame::Tally;
 use vch_value::Claim;
 
 /// Counts a claim, if one was taken.

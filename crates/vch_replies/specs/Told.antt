@@ -7,7 +7,7 @@ use Rattle.vch_base.specs.Keyed.{Keyed, of_key, tabled}
 use Rattle.vch_base.specs.Managers.{live_at, value_of}
 use Rattle.vch_entry.specs.Entries.{handle_at}
 use Rattle.vch_model.specs.Voucher as model
-use Rattle.vch_state.specs.Shape.{index_of}
+use Rattle.vch_frame.specs.Indices.{index_of}
 use Rattle.vch_values.specs.Parts.{KeyParts}
 use Rattle.vch_vouchers.specs.Desks.{Voucher, voucher_of}
 use Rattle.vch_parts.specs.Plain.{Plain, part_of}

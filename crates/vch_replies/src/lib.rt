@@ -37,7 +37,7 @@ ghost use Rattle.vch_model.specs.Totals.{named_voucher};
 ghost use Rattle.vch_machine.specs.Beginning.{store_reply};
 ghost use Rattle.vch_machine.specs.Next.{nth_call};
 ghost use Rattle.vch_machine.specs.State.{Machine, seen};
-ghost use Rattle.vch_state.specs.Shape.{index_of};
+ghost use Rattle.vch_frame.specs.Indices.{index_of};
 ghost use Rattle.vch_values.specs.Parts.{live_in};
 ghost use Rattle.vch_vouchers.specs.Desks.{Voucher, different};
 ghost use Rattle.vch_parts.specs.Plain.{Plain, part_of};

@@ -21,10 +21,11 @@ use Rattle.vch_machine.specs.State as machine
 use Rattle.vch_machine.specs.State.{Handles, Living, Machine, Place, Tasked, tasked, is_empty, member_of}
 use Rattle.vch_machine.specs.Next.{nth_call, call_in}
 use Rattle.vch_legal.specs.Tie.{FrameForms, IsForming, Ties}
-use Rattle.vch_state.specs.declared.frame.Claiming.{Claiming}
-use Rattle.vch_state.specs.declared.frame.KeyIndex.{KeyIndex}
-use Rattle.vch_state.specs.declared.frame.KeyReceipt.{KeyReceipt}
-use Rattle.vch_state.specs.Reached.{claim_kind, lets_kind}
+use Rattle.vch_frame.specs.declared.frame.Claiming.{Claiming}
+use Rattle.vch_frame.specs.declared.frame.KeyIndex.{KeyIndex}
+use Rattle.vch_frame.specs.declared.frame.KeyReceipt.{KeyReceipt}
+use Rattle.vch_frame.specs.Releases.{lets_kind}
+use Rattle.vch_frame.specs.Claims.{claim_kind}
 use Rattle.vch_vouchers.specs.Desks.{Named, desk}
 use Rattle.vch_parts.specs.declared.frame.Frame.{Frame}
 use Rattle.vch_parts.specs.declared.parts.Parts.{Parts}

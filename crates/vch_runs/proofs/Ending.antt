@@ -12,7 +12,7 @@ use Rattle.vch_legal.specs.Left.{work_left, largest_call}
 use Rattle.vch_legal.proofs.CallerLemmas.{reached_stands, move_lowers, run_bounded, start_few}
 use Rattle.vch_parts.specs.declared.parts.Parts.{Parts}
 use Rattle.vch_parts.specs.Reached.{Reached, Stands}
-use Rattle.vch_state.proofs.CallerLemmas.{run_on}
+use Rattle.vch_frame.proofs.CallerLemmas.{run_on}
 use Rattle.vch_runs.specs.Runs.{RunsTo, EndsInTurn, EndsBySeed}
 use Rattle.vch_runs.specs.Turning.{all_of, IsTurn, IsDraw, Goes, Turns, Draws}
 use Rattle.vch_runs.proofs.Framed.{reach}

@@ -11,7 +11,7 @@ use Rattle.vch_legal.proofs.CallerLemmas.{lines_of_tasks, all_of_tasks, lines_wi
 use Rattle.vch_parts.specs.declared.parts.Parts.{Parts}
 use Rattle.vch_script.specs.Places.{IsOfTask}
 use Rattle.vch_parts.specs.Reached.{Reached}
-use Rattle.vch_state.proofs.CallerLemmas.{task_number}
+use Rattle.vch_frame.proofs.CallerLemmas.{task_number}
 use Rattle.vch_runs.specs.declared.turn.Cursor.{Cursor}
 use Rattle.vch_runs.specs.Turning as turning
 use Rattle.vch_runs.specs.Turning.{IsCursor, current_lines, lines_of_task}

@@ -19,7 +19,7 @@ use Rattle.vch_parts.specs.Reached.{Reached, Stands}
 use Rattle.vch_runs.specs.declared.turn.Cursor.{Cursor}
 use Rattle.vch_runs.specs.Turning.{IsWaiting, AreBegun, IsCursor, seen_after, lines_before, current_lines}
 use Rattle.vch_legal.specs.Facts.{bit}
-use Rattle.vch_state.proofs.CallerLemmas.{task_number}
+use Rattle.vch_frame.proofs.CallerLemmas.{task_number}
 use Rattle.vch_runs.proofs.Passing.{set_count}
 use Rattle.vch_runs.proofs.Framed.{reach, from_state, own_begun}
 

@@ -11,7 +11,7 @@ use Rattle.vch_machine.specs.Next.{next_kind}
 use Rattle.vch_machine.specs.Schedules.{Move, run_from_start}
 use Rattle.vch_legal.specs.Tie.{Ties}
 use Rattle.vch_legal.proofs.CallerLemmas.{reached_stands}
-use Rattle.vch_state.specs.Shape.{Optional}
+use Rattle.vch_frame.specs.Pairs.{Optional}
 use Rattle.vch_values.specs.Parts.{KeyParts}
 use Rattle.vch_vouchers.specs.Desks.{desk}
 use Rattle.vch_parts.specs.declared.parts.Parts.{Parts}

@@ -9,10 +9,10 @@ ghost use Rattle.vch_parts.specs.Reached.{IsNext, Reached, Stands};
 use std::alloc::Global;
 use std::marker::Model;
 use vch_base::{Kind, NoMemory};
+use vch_frame::Tally;
 use vch_model::{History, Scenario};
 use vch_parts::Parts;
 use vch_script::Script;
-use vch_state::Tally;
 
 /// A core: the vouchers and values of its tasks, the calls that are under way, and what happened so far.
 ///

@@ -21,7 +21,7 @@ use Rattle.vch_model.specs.declared.entry.Reply.TheVariants as replies
 use Rattle.vch_machine.specs.Beginning.{begin_call, store_reply}
 use Rattle.vch_machine.specs.Frames.{replied}
 use Rattle.vch_machine.specs.State.{Machine}
-use Rattle.vch_state.specs.Shape.{index_of}
+use Rattle.vch_frame.specs.Indices.{index_of}
 use Rattle.vch_values.specs.Parts.{KeyParts}
 use Rattle.vch_vouchers.specs.Desks.{Voucher, desk, voucher_of}
 use Rattle.vch_parts.specs.declared.parts.Parts.{Parts}

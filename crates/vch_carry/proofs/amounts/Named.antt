@@ -5,7 +5,7 @@ use Rattle.vch_base.specs.declared.key.Key.{Key}
 use Rattle.vch_base.specs.Keyed.{of_key}
 use Rattle.vch_base.specs.Managers.{live_at}
 use Rattle.vch_model.specs.Lines.{is_task}
-use Rattle.vch_state.specs.Shape.{index_of}
+use Rattle.vch_frame.specs.Indices.{index_of}
 use Rattle.vch_vouchers.specs.Desks.{Voucher, desk, voucher_of}
 use Rattle.vch_parts.specs.declared.parts.Parts.{Parts}
 use Rattle.vch_parts.specs.Reached.{plain_of, Reached}

@@ -16,7 +16,7 @@ use Rattle.vch_model.specs.Lines.{phases_in}
 use Rattle.vch_machine.specs.Frames.{noted}
 use Rattle.vch_machine.specs.State.{Living, Machine, tasked, living_at}
 use Rattle.vch_bounds.specs.Rooms.{room_of, made_in}
-use Rattle.vch_state.specs.Stands.{IsLiving}
+use Rattle.vch_frame.specs.Living.{IsLiving}
 use Rattle.vch_values.specs.Parts.{KeyParts, asked_in, number_at}
 use Rattle.vch_values.proofs.CallerLemmas.{over_keys}
 use Rattle.vch_parts.specs.Plain.{Plain, part_of}

@@ -14,8 +14,9 @@ use Rattle.vch_machine.specs.Frames as frames
 use Rattle.vch_machine.specs.Naming.{is_known}
 use Rattle.vch_machine.specs.Next.{nth_call}
 use Rattle.vch_machine.specs.State.{Handles, Machine}
-use Rattle.vch_state.specs.Shape.{Optional, index_of}
-use Rattle.vch_state.proofs.CallerLemmas.{entry_of_handle}
+use Rattle.vch_frame.specs.Pairs.{Optional}
+use Rattle.vch_frame.specs.Indices.{index_of}
+use Rattle.vch_frame.proofs.CallerLemmas.{entry_of_handle}
 use Rattle.vch_values.specs.Parts.{KeyParts}
 use Rattle.vch_parts.specs.declared.frames.Working.{Working}
 use Rattle.vch_parts.specs.declared.parts.Parts.{Parts}

@@ -28,7 +28,8 @@ use Rattle.vch_machine.specs.Naming.{handles_of}
 use Rattle.vch_machine.specs.Next.{nth_call}
 use Rattle.vch_machine.specs.State as machine
 use Rattle.vch_machine.specs.State.{Handles, Machine, Tasked, tasked, idle}
-use Rattle.vch_state.specs.Shape.{Optional, Pairwise, index_of}
+use Rattle.vch_frame.specs.Pairs.{Optional, Pairwise}
+use Rattle.vch_frame.specs.Indices.{index_of}
 use Rattle.vch_values.specs.Parts.{KeyParts}
 use Rattle.vch_vouchers.specs.Desks as desks
 use Rattle.vch_vouchers.specs.Desks.{Desk, AreDesks, desk, voucher_of}

@@ -19,7 +19,7 @@ use Rattle.vch_machine.specs.State as machine
 use Rattle.vch_machine.specs.State.{Machine, tasked, idle}
 use Rattle.vch_legal.specs.Tie.{Ties}
 use Rattle.vch_legal.proofs.CallerLemmas.{reached_stands}
-use Rattle.vch_state.specs.Shape.{Optional}
+use Rattle.vch_frame.specs.Pairs.{Optional}
 use Rattle.vch_values.specs.Parts.{KeyParts}
 use Rattle.vch_parts.specs.declared.frame.Frame.{Frame}
 use Rattle.vch_parts.specs.declared.frames.Working.{Working}

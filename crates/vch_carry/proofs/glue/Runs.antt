@@ -12,7 +12,7 @@ use Rattle.vch_machine.specs.Events.{event}
 use Rattle.vch_machine.specs.Next.{next_kind}
 use Rattle.vch_machine.specs.Schedules.{Move}
 use Rattle.vch_machine.specs.State.{Machine, start}
-use Rattle.vch_state.proofs.CallerLemmas.{run_on}
+use Rattle.vch_frame.proofs.CallerLemmas.{run_on}
 use Rattle.vch_parts.specs.declared.parts.Parts.{Parts}
 use Rattle.vch_parts.specs.Plain.{Plain}
 use Rattle.vch_parts.specs.Reached.{plain_of, IsState, IsEventBy, MayFollow}

@@ -18,8 +18,8 @@ use Rattle.vch_machine.specs.Next.{nth_call, current}
 use Rattle.vch_machine.specs.State as machine
 use Rattle.vch_machine.specs.State.{Machine, tasked}
 use Rattle.vch_machine.specs.Working.{do_exit, do_gone, do_lost, do_left, exit_names, exit_queue}
-use Rattle.vch_state.specs.declared.frame.KeyIndex.{KeyIndex}
-use Rattle.vch_state.specs.Shape.{Pairwise}
+use Rattle.vch_frame.specs.declared.frame.KeyIndex.{KeyIndex}
+use Rattle.vch_frame.specs.Pairs.{Pairwise}
 use Rattle.vch_values.specs.Parts.{KeyParts}
 use Rattle.vch_ports.specs.Names as ports
 use Rattle.vch_vouchers.specs.Desks as desks

@@ -16,7 +16,7 @@ use Rattle.vch_machine.specs.Placing.{place_recv}
 use Rattle.vch_machine.specs.State as machine
 use Rattle.vch_machine.specs.State.{Handles, Machine, Living, tasked, member_of, message_of}
 use Rattle.vch_legal.specs.Tie.{IsForming, FrameForms, first_in}
-use Rattle.vch_state.specs.Shape.{Pairwise}
+use Rattle.vch_frame.specs.Pairs.{Pairwise}
 use Rattle.vch_vouchers.specs.Desks as desks
 use Rattle.vch_vouchers.specs.Desks.{Desk, desk, empty_desk, name_for, name_with, given_to, is_known, taken_from}
 use Rattle.vch_vouchers.specs.declared.answers.Message.{Message}

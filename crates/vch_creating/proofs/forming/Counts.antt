@@ -11,8 +11,9 @@ use Rattle.vch_bounds.specs.Bounded.{Limited}
 use Rattle.vch_model.specs.declared.lists.Scenario.{Scenario}
 use Rattle.vch_machine.specs.State.{Machine}
 use Rattle.vch_legal.specs.Tie.{Ties}
-use Rattle.vch_state.specs.Shape.{index_of, Optional}
-use Rattle.vch_state.proofs.CallerLemmas.{there_of, entry_of_handle}
+use Rattle.vch_frame.specs.Pairs.{Optional}
+use Rattle.vch_frame.specs.Indices.{index_of}
+use Rattle.vch_frame.proofs.CallerLemmas.{there_of, entry_of_handle}
 use Rattle.vch_parts.specs.Plain.{Plain}
 use Rattle.vch_parts.specs.Pictures.{picture_of}
 use Rattle.vch_parts.specs.Shape.{IsIndexOf, slots_of}

@@ -8,8 +8,9 @@ use Rattle.vch_entry.specs.Entries.{IsApart, handle_at}
 use Rattle.vch_machine.specs.State.{Handles, Machine}
 use Rattle.vch_machine.specs.Naming.{same_handle, is_known}
 use Rattle.vch_machine.specs.Working.{copies, removes}
-use Rattle.vch_state.specs.Shape.{index_of, Optional}
-use Rattle.vch_state.proofs.CallerLemmas.{either_way}
+use Rattle.vch_frame.specs.Pairs.{Optional}
+use Rattle.vch_frame.specs.Indices.{index_of}
+use Rattle.vch_frame.proofs.CallerLemmas.{either_way}
 use Rattle.vch_values.specs.Parts.{KeyParts}
 use Rattle.vch_parts.specs.Plain.{Indices, Plain}
 use Rattle.vch_parts.specs.Pictures.{picture_of}

@@ -3,7 +3,7 @@ use Rattle.std.proofs.Common.{◌≡◌, ℕ, false, sym, subst, ap, Option, Som
 use Rattle.vch_base.specs.declared.key.Key.{Key}
 use Rattle.vch_base.specs.Keys.{same_key}
 use Rattle.vch_base.specs.Keyed.{of_key}
-use Rattle.vch_state.specs.Shape.{index_of}
+use Rattle.vch_frame.specs.Indices.{index_of}
 use Rattle.vch_moves.specs.Works.{Workspace, Changes}
 use Rattle.vch_creating.specs.declared.change.Deed.{Deed}
 use Rattle.vch_creating.specs.declared.change.Deed.TheVariants as deeds

@@ -13,7 +13,7 @@ use Rattle.vch_recipe.specs.Recipes.{First, One}
 use Rattle.vch_machine.specs.State.{Handles, Named}
 use Rattle.vch_machine.specs.Naming.{handles_of}
 use Rattle.vch_machine.specs.Working.{WorkDone, changed_at, changed_each, changed_keys, copies, removes, copied, worked, worked_with, work_first}
-use Rattle.vch_state.specs.Shape.{Optional}
+use Rattle.vch_frame.specs.Pairs.{Optional}
 use Rattle.vch_values.specs.Parts.{KeyParts}
 use Rattle.vch_parts.specs.Plain.{Indices}
 use Rattle.vch_parts.specs.Shape.{IsMap}

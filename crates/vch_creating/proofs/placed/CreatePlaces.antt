@@ -13,8 +13,8 @@ use Rattle.vch_model.specs.declared.entry.Reply.TheVariants as replies
 use Rattle.vch_machine.specs.Next.{nth_call}
 use Rattle.vch_machine.specs.State as machine
 use Rattle.vch_machine.specs.State.{Machine}
-use Rattle.vch_state.specs.declared.frame.Claiming.{Claiming}
-use Rattle.vch_state.specs.declared.frame.KeyIndex.{KeyIndex}
+use Rattle.vch_frame.specs.declared.frame.Claiming.{Claiming}
+use Rattle.vch_frame.specs.declared.frame.KeyIndex.{KeyIndex}
 use Rattle.vch_vouchers.specs.Desks as desks
 use Rattle.vch_vouchers.specs.Desks.{Desk, desk, is_known, name_for, name_with}
 use Rattle.vch_parts.specs.declared.frame.Frame.{Frame}

@@ -16,7 +16,7 @@ use Rattle.vch_model.specs.declared.entry.Reply.{Reply}
 use Rattle.vch_machine.specs.Beginning.{begin_call, or_want, store_reply}
 use Rattle.vch_machine.specs.Frames.{replied}
 use Rattle.vch_machine.specs.State.{Machine}
-use Rattle.vch_state.specs.Shape.{index_of}
+use Rattle.vch_frame.specs.Indices.{index_of}
 use Rattle.vch_vouchers.specs.Desks.{Voucher, desk, voucher_of}
 use Rattle.vch_parts.specs.declared.parts.Parts.{Parts}
 use Rattle.vch_parts.specs.Reached.{plain_of, Reached}

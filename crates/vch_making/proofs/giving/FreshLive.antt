@@ -18,8 +18,8 @@ use Rattle.vch_machine.specs.Making.{fresh_handle, fewer_free, race_claim, on_ta
 use Rattle.vch_legal.specs.Facts.{Fits, bit, times}
 use Rattle.vch_legal.proofs.CallerLemmas.{append_here, append_other, fresh_dead, found_value, claims_task, at_most_once}
 use Rattle.vch_values.specs.Parts.{number_at}
-use Rattle.vch_state.specs.Stands.{IsLiving}
-use Rattle.vch_state.proofs.CallerLemmas.{same_at}
+use Rattle.vch_frame.specs.Living.{IsLiving}
+use Rattle.vch_frame.proofs.CallerLemmas.{same_at}
 use Rattle.vch_parts.proofs.CallerLemmas.{framed}
 use Rattle.vch_making.proofs.giving.MadeLive.{IsFree, used_after, live_new, live_old}
 

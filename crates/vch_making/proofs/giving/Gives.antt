@@ -30,8 +30,8 @@ use Rattle.vch_legal.specs.ValueAmounts.{amount_of}
 use Rattle.vch_legal.proofs.CallerLemmas.{append_other, fresh_dead, made_amount, other_made, values_eq, cases_bool}
 use Rattle.vch_bounds.specs.Rooms.{room_of}
 use Rattle.vch_bounds.proofs.CallerLemmas.{room_grows}
-use Rattle.vch_state.specs.declared.frame.Claiming.{Claiming}
-use Rattle.vch_state.specs.Stands.{IsLiving}
+use Rattle.vch_frame.specs.declared.frame.Claiming.{Claiming}
+use Rattle.vch_frame.specs.Living.{IsLiving}
 use Rattle.vch_values.specs.Parts.{KeyParts, number_at}
 use Rattle.vch_values.proofs.CallerLemmas.{of_with, same_key_refl}
 use Rattle.vch_parts.specs.declared.frame.Frame.{Frame}

@@ -16,8 +16,8 @@ use Rattle.vch_machine.specs.Frames as frames
 use Rattle.vch_machine.specs.Working.{changed_each}
 use Rattle.vch_legal.specs.Tie.{moved_place, moved_keys}
 use Rattle.vch_legal.proofs.CallerLemmas.{moved_is}
-use Rattle.vch_state.specs.Moves.{let_at}
-use Rattle.vch_state.specs.Shape.{index_of}
+use Rattle.vch_frame.specs.Indices.{index_of}
+use Rattle.vch_frame.specs.Releases.{let_at}
 use Rattle.vch_parts.specs.declared.frame.Frame.{Frame}
 use Rattle.vch_parts.specs.Plain.{Indices, Plain, Part}
 use Rattle.vch_parts.specs.Stands.{StandsFor}

@@ -22,8 +22,8 @@ use Rattle.vch_machine.specs.Making.{race_claim, on_claim, on_frame, on_claims}
 use Rattle.vch_legal.specs.ValueAmounts.{amount_of}
 use Rattle.vch_legal.proofs.CallerLemmas.{claims_task}
 use Rattle.vch_bounds.specs.Rooms.{room_of}
-use Rattle.vch_state.specs.declared.frame.Claiming.{Claiming}
-use Rattle.vch_state.specs.Stands.{IsLiving}
+use Rattle.vch_frame.specs.declared.frame.Claiming.{Claiming}
+use Rattle.vch_frame.specs.Living.{IsLiving}
 use Rattle.vch_values.specs.Parts.{KeyParts, number_at, asked_in}
 use Rattle.vch_values.proofs.CallerLemmas.{of_with, same_key_refl, over_keys}
 use Rattle.vch_parts.specs.declared.frame.Frame.{Frame}

@@ -22,7 +22,8 @@ use Rattle.vch_machine.specs.State as machine
 use Rattle.vch_machine.specs.State.{Handles, Machine, tasked, member_of, valued, value_at}
 use Rattle.vch_legal.specs.Tie.{Ties, FormsSend, FormsRecv, keys_there, sent_keys, received_keys}
 use Rattle.vch_legal.proofs.CallerLemmas.{forms_at}
-use Rattle.vch_state.specs.Shape.{Optional, Pairwise, index_of}
+use Rattle.vch_frame.specs.Pairs.{Optional, Pairwise}
+use Rattle.vch_frame.specs.Indices.{index_of}
 use Rattle.vch_parts.specs.declared.frame.Frame.{Frame}
 use Rattle.vch_parts.specs.Plain.{Plain, Indices, part_of}
 use Rattle.vch_parts.specs.Shape.{IsReceipt, IsName}

@@ -24,7 +24,8 @@ use Rattle.vch_machine.specs.Next.{first_next, known_name}
 use Rattle.vch_machine.specs.State as machine
 use Rattle.vch_machine.specs.State.{Handles, Living, Machine, Place, tasked, living_at, value_at, member_of, valued, is_empty}
 use Rattle.vch_legal.specs.Tie.{Ties}
-use Rattle.vch_state.specs.Shape.{Optional, Pairwise, index_of}
+use Rattle.vch_frame.specs.Pairs.{Optional, Pairwise}
+use Rattle.vch_frame.specs.Indices.{index_of}
 use Rattle.vch_values.specs.Parts.{KeyParts, rules_at}
 use Rattle.vch_values.proofs.CallerLemmas.{answers_record, received_alike}
 use Rattle.vch_vouchers.specs.Desks.{Named, voucher_of}

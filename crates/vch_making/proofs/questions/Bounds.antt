@@ -25,7 +25,7 @@ use Rattle.vch_legal.specs.Tie.{Ties}
 use Rattle.vch_bounds.specs.Rooms.{room_of}
 use Rattle.vch_bounds.proofs.CallerLemmas.{counted}
 use Rattle.vch_values.specs.Parts.{KeyParts, live_in, rules_at}
-use Rattle.vch_state.proofs.CallerLemmas.{task_number}
+use Rattle.vch_frame.proofs.CallerLemmas.{task_number}
 use Rattle.vch_values.proofs.CallerLemmas.{over_keys}
 use Rattle.vch_replies.proofs.CallerLemmas.{values_live}
 use Rattle.vch_parts.specs.declared.parts.Parts.{Parts}

@@ -5,7 +5,7 @@ use Rattle.vch_base.specs.declared.key.Key.{Key}
 use Rattle.vch_base.specs.Tasks.{at_task}
 use Rattle.vch_vouchers.specs.Desks.{Desk}
 use Rattle.vch_parts.specs.declared.frame.Frame.{Frame}
-use Rattle.vch_state.specs.declared.frame.KeyReceipt.{KeyReceipt}
+use Rattle.vch_frame.specs.declared.frame.KeyReceipt.{KeyReceipt}
 use Rattle.vch_parts.specs.declared.frames.Working.{Working}
 use Rattle.vch_parts.specs.Plain.{Part}
 use Rattle.vch_parts.specs.Framed.{resting}

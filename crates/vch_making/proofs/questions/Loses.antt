@@ -12,8 +12,8 @@ use Rattle.vch_model.specs.declared.call.Call.{Call}
 use Rattle.vch_model.specs.declared.call.Call.TheVariants as calls
 use Rattle.vch_machine.specs.Next.{nth_call}
 use Rattle.vch_legal.proofs.CallerLemmas.{record_inside}
-use Rattle.vch_state.specs.declared.frame.KeyIndex.{KeyIndex}
-use Rattle.vch_state.proofs.CallerLemmas.{room_for}
+use Rattle.vch_frame.specs.declared.frame.KeyIndex.{KeyIndex}
+use Rattle.vch_frame.proofs.CallerLemmas.{room_for}
 use Rattle.vch_vouchers.specs.Desks.{Named, desk}
 use Rattle.vch_parts.specs.declared.frame.Frame.{Frame}
 use Rattle.vch_parts.specs.declared.frames.Working.{Working}

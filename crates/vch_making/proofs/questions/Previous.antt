@@ -21,9 +21,10 @@ use Rattle.vch_machine.specs.State as machine
 use Rattle.vch_machine.specs.State.{Handles, Living, Machine, tasked, living_at}
 use Rattle.vch_legal.specs.Tie.{Ties}
 use Rattle.vch_legal.proofs.CallerLemmas.{AllLive, LiveAll, LiveAt, forming_live, names_live}
-use Rattle.vch_state.specs.Shape.{Optional, Pairwise, index_of}
-use Rattle.vch_state.specs.Stands.{IsLiving}
-use Rattle.vch_state.proofs.CallerLemmas.{there_of}
+use Rattle.vch_frame.specs.Pairs.{Optional, Pairwise}
+use Rattle.vch_frame.specs.Indices.{index_of}
+use Rattle.vch_frame.specs.Living.{IsLiving}
+use Rattle.vch_frame.proofs.CallerLemmas.{there_of}
 use Rattle.vch_values.specs.Parts.{number_at}
 use Rattle.vch_vouchers.specs.Desks.{Named, desk}
 use Rattle.vch_replies.proofs.CallerLemmas.{map_at}

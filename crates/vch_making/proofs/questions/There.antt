@@ -22,9 +22,10 @@ use Rattle.vch_machine.specs.State.{Machine, tasked, member_of, valued}
 use Rattle.vch_legal.specs.Tie as tie
 use Rattle.vch_legal.specs.Tie.{Ties, place_with, keys_with, map_with}
 use Rattle.vch_legal.proofs.CallerLemmas.{forms_at}
-use Rattle.vch_state.specs.declared.frame.Claiming.{Claiming}
-use Rattle.vch_state.specs.Reached.{claim_kind, lets_kind}
-use Rattle.vch_state.specs.Shape.{Optional}
+use Rattle.vch_frame.specs.declared.frame.Claiming.{Claiming}
+use Rattle.vch_frame.specs.Pairs.{Optional}
+use Rattle.vch_frame.specs.Releases.{lets_kind}
+use Rattle.vch_frame.specs.Claims.{claim_kind}
 use Rattle.vch_vouchers.specs.Desks.{Named, desk}
 use Rattle.vch_parts.specs.declared.frame.Frame.{Frame}
 use Rattle.vch_parts.specs.declared.parts.Parts.{Parts}

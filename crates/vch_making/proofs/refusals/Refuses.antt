@@ -11,10 +11,10 @@ use Rattle.vch_model.specs.declared.call.Call.{Call}
 use Rattle.vch_model.specs.declared.entry.Entry.{Entry}
 use Rattle.vch_model.specs.declared.entry.Entry.TheVariants as entries
 use Rattle.vch_machine.specs.Next.{nth_call}
-use Rattle.vch_state.specs.declared.frame.Claiming.{Claiming}
-use Rattle.vch_state.specs.declared.frame.KeyIndex.{KeyIndex}
-use Rattle.vch_state.specs.declared.frame.KeyReceipt.{KeyReceipt}
-use Rattle.vch_state.specs.Reached.{claim_kind}
+use Rattle.vch_frame.specs.declared.frame.Claiming.{Claiming}
+use Rattle.vch_frame.specs.declared.frame.KeyIndex.{KeyIndex}
+use Rattle.vch_frame.specs.declared.frame.KeyReceipt.{KeyReceipt}
+use Rattle.vch_frame.specs.Claims.{claim_kind}
 use Rattle.vch_parts.specs.declared.frame.Frame.{Frame}
 use Rattle.vch_parts.specs.declared.frames.Working.{Working}
 use Rattle.vch_parts.specs.declared.parts.Parts.{Parts}

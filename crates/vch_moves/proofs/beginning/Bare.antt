@@ -15,7 +15,7 @@ use Rattle.vch_machine.specs.Frames as frames
 use Rattle.vch_machine.specs.Beginning as begins
 use Rattle.vch_legal.specs.ValueAmounts.{IsUncounted}
 use Rattle.vch_legal.proofs.CallerLemmas.{IsAmong}
-use Rattle.vch_state.specs.Shape.{Pairwise}
+use Rattle.vch_frame.specs.Pairs.{Pairwise}
 use Rattle.vch_vouchers.specs.declared.answers.Message.{Message}
 use Rattle.vch_parts.specs.Plain.{Plain, part_of}
 use Rattle.vch_parts.specs.Shape.{IsTask, IsMessage}

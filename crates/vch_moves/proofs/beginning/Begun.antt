@@ -17,7 +17,7 @@ use Rattle.vch_machine.specs.Frames as frames
 use Rattle.vch_machine.specs.Beginning as begins
 use Rattle.vch_legal.specs.ValueAmounts.{IsUncounted}
 use Rattle.vch_legal.proofs.CallerLemmas.{IsAmong}
-use Rattle.vch_state.specs.Shape.{Optional}
+use Rattle.vch_frame.specs.Pairs.{Optional}
 use Rattle.vch_parts.specs.declared.frame.Frame.{Frame}
 use Rattle.vch_parts.specs.Plain.{Plain, Part, part_of, with_frame}
 use Rattle.vch_parts.specs.Shape.{IsFrame, IsTask}

@@ -11,8 +11,8 @@ use Rattle.vch_machine.specs.Naming.{is_known}
 use Rattle.vch_machine.specs.Beginning as begins
 use Rattle.vch_machine.specs.Beginning.{key_if}
 use Rattle.vch_legal.proofs.CallerLemmas.{IsAmong}
-use Rattle.vch_state.specs.Pictures.{listed}
-use Rattle.vch_state.specs.Shape.{index_of, Optional}
+use Rattle.vch_frame.specs.Pairs.{Optional}
+use Rattle.vch_frame.specs.Indices.{listed, index_of}
 use Rattle.vch_values.specs.Parts.{KeyParts}
 use Rattle.vch_parts.specs.Plain.{Indices, Plain, part_of, with_frame}
 use Rattle.vch_parts.specs.Shape.{IsIndexOf, IsMap, IsTask}

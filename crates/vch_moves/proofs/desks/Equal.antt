@@ -13,8 +13,9 @@ use Rattle.vch_table.proofs.CallerLemmas.{same_equal, decides}
 use Rattle.vch_machine.specs.Naming.{same_handles}
 use Rattle.vch_machine.specs.State.{Handles}
 use Rattle.vch_legal.proofs.CallerLemmas.{handles_eq}
-use Rattle.vch_state.specs.Shape.{index_of, Optional}
-use Rattle.vch_state.proofs.CallerLemmas.{cases_of}
+use Rattle.vch_frame.specs.Pairs.{Optional}
+use Rattle.vch_frame.specs.Indices.{index_of}
+use Rattle.vch_frame.proofs.CallerLemmas.{cases_of}
 use Rattle.vch_values.specs.Parts.{KeyParts}
 use Rattle.vch_parts.specs.Plain.{Indices}
 use Rattle.vch_parts.specs.Shape.{IsIndexOf, IsMap, slots_of}

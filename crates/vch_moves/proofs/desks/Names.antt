@@ -5,7 +5,7 @@ use Rattle.vch_machine.specs.Naming as naming
 use Rattle.vch_machine.specs.Naming.{handles_of, name_of, with_name}
 use Rattle.vch_machine.specs.State as machine
 use Rattle.vch_machine.specs.State.{Handles, Tasked}
-use Rattle.vch_state.specs.Shape.{Optional, Pairwise}
+use Rattle.vch_frame.specs.Pairs.{Optional, Pairwise}
 use Rattle.vch_values.specs.Parts.{KeyParts}
 use Rattle.vch_vouchers.specs.Desks as desks
 use Rattle.vch_vouchers.specs.Desks.{Named, voucher_of, name_with, one_more, one_less, without_name, lowest}

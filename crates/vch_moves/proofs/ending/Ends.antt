@@ -14,8 +14,8 @@ use Rattle.vch_legal.specs.ValueAmounts.{IsUncounted}
 use Rattle.vch_machine.specs.State as machine
 use Rattle.vch_machine.specs.State.{Place, Machine, Tasked, tasked}
 use Rattle.vch_machine.specs.Frames as frames
-use Rattle.vch_state.specs.declared.frame.KeyIndex.{KeyIndex}
-use Rattle.vch_state.specs.Shape.{Optional, Pairwise}
+use Rattle.vch_frame.specs.declared.frame.KeyIndex.{KeyIndex}
+use Rattle.vch_frame.specs.Pairs.{Optional, Pairwise}
 use Rattle.vch_values.specs.Parts.{KeyParts}
 use Rattle.vch_parts.specs.declared.frame.Frame.{Frame}
 use Rattle.vch_parts.specs.Plain.{closed}

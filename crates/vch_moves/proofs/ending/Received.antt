@@ -17,8 +17,8 @@ use Rattle.vch_machine.specs.Naming as naming
 use Rattle.vch_machine.specs.Naming.{name_of, with_name}
 use Rattle.vch_machine.specs.Placing.{place_recv}
 use Rattle.vch_legal.proofs.CallerLemmas.{IsAmong, refused_uncounted}
-use Rattle.vch_state.specs.declared.frame.KeyIndex.{KeyIndex}
-use Rattle.vch_state.specs.Shape.{Pairwise}
+use Rattle.vch_frame.specs.declared.frame.KeyIndex.{KeyIndex}
+use Rattle.vch_frame.specs.Pairs.{Pairwise}
 use Rattle.vch_parts.specs.declared.frame.Frame.{Frame}
 use Rattle.vch_vouchers.specs.declared.answers.Message.{Message}
 use Rattle.vch_parts.specs.Plain.{Indices, Plain, Part, part_of, with_frame, closed}

@@ -19,8 +19,8 @@ use Rattle.vch_machine.specs.Next.{nth_call}
 use Rattle.vch_machine.specs.Placing.{place_send}
 use Rattle.vch_legal.specs.ValueAmounts.{is_counting}
 use Rattle.vch_legal.proofs.CallerLemmas.{IsAmong, call_uncounted}
-use Rattle.vch_state.specs.declared.frame.KeyIndex.{KeyIndex}
-use Rattle.vch_state.specs.Shape.{Pairwise}
+use Rattle.vch_frame.specs.declared.frame.KeyIndex.{KeyIndex}
+use Rattle.vch_frame.specs.Pairs.{Pairwise}
 use Rattle.vch_parts.specs.declared.frame.Frame.{Frame}
 use Rattle.vch_vouchers.specs.declared.answers.Message.{Message}
 use Rattle.vch_parts.specs.Plain.{Indices, Plain, Part, part_of, idle_part, with_frame, closed}

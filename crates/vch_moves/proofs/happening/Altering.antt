@@ -8,7 +8,8 @@ use Rattle.vch_entry.specs.Entries.{IsApart, handle_at}
 use Rattle.vch_machine.specs.Naming.{is_known, same_handle}
 use Rattle.vch_machine.specs.State.{Handles, Machine}
 use Rattle.vch_machine.specs.Working as working
-use Rattle.vch_state.specs.Shape.{Optional, index_of}
+use Rattle.vch_frame.specs.Pairs.{Optional}
+use Rattle.vch_frame.specs.Indices.{index_of}
 use Rattle.vch_values.specs.Parts.{KeyParts}
 use Rattle.vch_parts.specs.Plain.{Indices, Plain}
 use Rattle.vch_parts.specs.Shape.{IsIndexOf, IsMap, slots_of}

@@ -12,7 +12,7 @@ use Rattle.vch_machine.specs.Frames.{refuse}
 use Rattle.vch_machine.specs.Next.{nth_call}
 use Rattle.vch_machine.specs.Placing.{place_send}
 use Rattle.vch_model.specs.Voucher.{Voucher}
-use Rattle.vch_state.specs.Shape.{Optional}
+use Rattle.vch_frame.specs.Pairs.{Optional}
 use Rattle.vch_machine.specs.State as machine
 use Rattle.vch_machine.specs.State.{Handles, Machine, tasked, member_of, message_of, valued}
 use Rattle.vch_legal.specs.Tie.{Ties, FormsRecv, first_in}

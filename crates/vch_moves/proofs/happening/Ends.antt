@@ -19,7 +19,7 @@ use Rattle.vch_machine.specs.State as machine
 use Rattle.vch_machine.specs.State.{Handles, Machine, tasked}
 use Rattle.vch_machine.specs.Working.{do_work, do_exit, exit_names, exit_queue, do_gone, do_lost, do_left}
 use Rattle.vch_legal.specs.Tie.{Ties}
-use Rattle.vch_state.specs.Shape.{Pairwise}
+use Rattle.vch_frame.specs.Pairs.{Pairwise}
 use Rattle.vch_values.specs.Parts.{KeyParts}
 use Rattle.vch_vouchers.specs.Desks.{lowest}
 use Rattle.vch_vouchers.specs.declared.answers.Message.{Message}

@@ -25,7 +25,8 @@ use Rattle.vch_machine.specs.State.{Handles, Machine, Tasked, tasked, idle}
 use Rattle.vch_legal.specs.Tie.{Ties}
 use Rattle.vch_legal.specs.ValueAmounts.{is_counting, IsUncounted}
 use Rattle.vch_legal.proofs.CallerLemmas.{IsAmong, call_uncounted, refused_uncounted}
-use Rattle.vch_state.specs.Shape.{Optional, index_of}
+use Rattle.vch_frame.specs.Pairs.{Optional}
+use Rattle.vch_frame.specs.Indices.{index_of}
 use Rattle.vch_values.specs.Parts.{KeyParts}
 use Rattle.vch_vouchers.specs.Desks.{voucher_of}
 use Rattle.vch_vouchers.specs.declared.answers.Message.{Message}

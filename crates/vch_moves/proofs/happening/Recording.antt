@@ -13,7 +13,7 @@ use Rattle.vch_machine.specs.State.{Handles, Machine, tasked}
 use Rattle.vch_machine.specs.Working.{WorkDone, do_work, work_first, work_done, size_of, changed_each}
 use Rattle.vch_legal.specs.Tie.{Ties}
 use Rattle.vch_legal.proofs.CallerLemmas.{IsAmong}
-use Rattle.vch_state.specs.Shape.{Optional}
+use Rattle.vch_frame.specs.Pairs.{Optional}
 use Rattle.vch_vouchers.specs.Desks.{voucher_of}
 use Rattle.vch_parts.specs.declared.frame.Frame.{Frame}
 use Rattle.vch_parts.specs.Plain.{Indices, Plain, part_of}

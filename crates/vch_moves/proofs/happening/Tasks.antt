@@ -9,11 +9,12 @@ use Rattle.vch_machine.specs.Next.{nth_call}
 use Rattle.vch_machine.specs.State as machine
 use Rattle.vch_machine.specs.State.{Handles, Machine, Place, tasked, member_of, Living}
 use Rattle.vch_legal.specs.Tie.{Ties, IsForming, FrameForms}
-use Rattle.vch_state.specs.declared.frame.Claiming.{Claiming}
-use Rattle.vch_state.specs.declared.frame.KeyIndex.{KeyIndex}
-use Rattle.vch_state.specs.declared.frame.KeyReceipt.{KeyReceipt}
-use Rattle.vch_state.specs.Reached.{claim_kind, lets_kind}
-use Rattle.vch_state.specs.Shape.{Optional}
+use Rattle.vch_frame.specs.declared.frame.Claiming.{Claiming}
+use Rattle.vch_frame.specs.declared.frame.KeyIndex.{KeyIndex}
+use Rattle.vch_frame.specs.declared.frame.KeyReceipt.{KeyReceipt}
+use Rattle.vch_frame.specs.Pairs.{Optional}
+use Rattle.vch_frame.specs.Releases.{lets_kind}
+use Rattle.vch_frame.specs.Claims.{claim_kind}
 use Rattle.vch_parts.specs.declared.frame.Frame.{Frame}
 use Rattle.vch_parts.specs.Plain.{Indices, Plain, part_of}
 use Rattle.vch_parts.specs.Nexts.{value_kind, receipt_kind}

@@ -8,7 +8,7 @@ use Rattle.vch_base.specs.Managers.{count}
 use Rattle.vch_machine.specs.Naming.{same_handle, same_handles}
 use Rattle.vch_machine.specs.State.{Handles}
 use Rattle.vch_legal.proofs.CallerLemmas.{handles_eq}
-use Rattle.vch_state.proofs.CallerLemmas.{cases_of}
+use Rattle.vch_frame.proofs.CallerLemmas.{cases_of}
 use Rattle.vch_parts.specs.Pictures.{different, voucher_holds}
 use Rattle.vch_moves.specs.Known.{holds_in, known_in, is_among}
 

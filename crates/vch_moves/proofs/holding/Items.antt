@@ -7,9 +7,9 @@ use Rattle.vch_base.specs.Keys.{every_key, same_key}
 use Rattle.vch_base.specs.Keyed.{Keyed, of_key}
 use Rattle.vch_machine.specs.State.{Handles, Place}
 use Rattle.vch_machine.specs.Naming.{item, places, option_places}
-use Rattle.vch_state.specs.Moves.{let_at}
-use Rattle.vch_state.specs.Pictures.{listed}
-use Rattle.vch_state.specs.Shape.{index_of, Pairwise, Optional}
+use Rattle.vch_frame.specs.Pairs.{Pairwise, Optional}
+use Rattle.vch_frame.specs.Indices.{listed, index_of}
+use Rattle.vch_frame.specs.Releases.{let_at}
 use Rattle.vch_values.specs.Parts.{KeyParts}
 use Rattle.vch_parts.specs.Plain.{Indices}
 use Rattle.vch_parts.specs.Shape.{IsIndexOf, AreIndices, IsMap, IsLet}

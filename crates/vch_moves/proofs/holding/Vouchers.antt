@@ -4,7 +4,7 @@ use Rattle.std.specs.List.{list_any, flat_map}
 use Rattle.std.proofs.lemmas.List.Folds.{list_any-append}
 use Rattle.vch_machine.specs.Naming.{same_handles, handles_of, name_of, one_more, one_less, without_name, with_name, option_same, task_knows, is_known}
 use Rattle.vch_machine.specs.State.{Handles, Named, Message, Tasked, Machine}
-use Rattle.vch_state.proofs.CallerLemmas.{cases_of}
+use Rattle.vch_frame.proofs.CallerLemmas.{cases_of}
 use Rattle.vch_parts.specs.Pictures.{task_vouchers, option_handles}
 use Rattle.vch_moves.specs.Known.{is_among, vouchers_in}
 use Rattle.vch_moves.proofs.holding.Different.{OneMore, same_self, same_turned}

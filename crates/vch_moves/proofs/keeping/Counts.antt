@@ -10,7 +10,7 @@ use Rattle.vch_value.specs.Picture.{Picture, Alike, Depicts, flags_at, claims_at
 use Rattle.vch_value.proofs.CallerLemmas.{stands_alike}
 use Rattle.vch_model.specs.declared.lists.Scenario.{Scenario}
 use Rattle.vch_machine.specs.State.{Machine}
-use Rattle.vch_state.specs.Pictures.{listed}
+use Rattle.vch_frame.specs.Indices.{listed}
 use Rattle.vch_values.specs.Parts.{KeyParts}
 use Rattle.vch_parts.specs.Plain.{Plain}
 use Rattle.vch_parts.specs.Pictures.{picture_of, task_holds, voucher_holds, known_vouchers}

@@ -3,8 +3,8 @@ use Rattle.std.proofs.Common.{◌≡◌, Bool, true, false, cond, [], refl, Opti
 use Rattle.vch_base.specs.declared.key.Key.{Key}
 use Rattle.vch_base.specs.Keyed.{Keyed}
 use Rattle.vch_machine.specs.State as machine
-use Rattle.vch_state.specs.declared.frame.Claiming.{Claiming}
-use Rattle.vch_state.specs.Shape.{Optional}
+use Rattle.vch_frame.specs.declared.frame.Claiming.{Claiming}
+use Rattle.vch_frame.specs.Pairs.{Optional}
 use Rattle.vch_values.specs.Parts.{KeyParts}
 use Rattle.vch_parts.specs.declared.frame.Frame.{Frame}
 use Rattle.vch_parts.specs.Plain.{closed, stays}

@@ -17,7 +17,7 @@ use Rattle.vch_model.specs.Lines.{phases_in}
 use Rattle.vch_model.specs.Totals.{ledger}
 use Rattle.vch_machine.specs.State.{Machine}
 use Rattle.vch_legal.specs.ValueAmounts.{amount_of}
-use Rattle.vch_state.specs.declared.tally.Tally.{Tally}
+use Rattle.vch_frame.specs.declared.tally.Tally.{Tally}
 use Rattle.vch_values.specs.Parts.{KeyParts, asked_in}
 use Rattle.vch_parts.specs.Plain.{Plain}
 use Rattle.vch_parts.specs.Stands.{StandsFor, KeyStands}

@@ -16,7 +16,7 @@ use Rattle.vch_machine.specs.Beginning as begins
 use Rattle.vch_legal.specs.ValueAmounts.{IsUncounted}
 use Rattle.vch_legal.proofs.CallerLemmas.{IsAmong}
 use Rattle.vch_base.proofs.CallerLemmas.{own_item, set_twice}
-use Rattle.vch_state.specs.declared.frame.KeyIndex.{KeyIndex}
+use Rattle.vch_frame.specs.declared.frame.KeyIndex.{KeyIndex}
 use Rattle.vch_parts.specs.declared.frame.Frame.{Frame}
 use Rattle.vch_parts.specs.Plain.{Plain, part_of, closed}
 use Rattle.vch_parts.specs.Shape.{IsTask}

@@ -19,8 +19,8 @@ use Rattle.vch_machine.specs.Next.{nth_call}
 use Rattle.vch_machine.specs.Working.{do_gone, do_lost, do_left}
 use Rattle.vch_legal.proofs.CallerLemmas.{IsAmong, gone_uncounted, lost_uncounted, call_uncounted}
 use Rattle.vch_base.proofs.CallerLemmas.{own_item}
-use Rattle.vch_state.specs.declared.frame.KeyIndex.{KeyIndex}
-use Rattle.vch_state.specs.Shape.{Pairwise}
+use Rattle.vch_frame.specs.declared.frame.KeyIndex.{KeyIndex}
+use Rattle.vch_frame.specs.Pairs.{Pairwise}
 use Rattle.vch_parts.specs.declared.frame.Frame.{Frame}
 use Rattle.vch_vouchers.specs.declared.answers.Message.{Message}
 use Rattle.vch_parts.specs.Plain.{Plain, Part, part_of, with_frame, closed}

@@ -11,8 +11,8 @@ use Rattle.vch_machine.specs.State as machine
 use Rattle.vch_machine.specs.State.{Handles, Place, Machine, Tasked, tasked, with_tasked}
 use Rattle.vch_machine.specs.Naming as naming
 use Rattle.vch_legal.proofs.CallerLemmas.{IsAmong}
-use Rattle.vch_state.specs.declared.frame.KeyIndex.{KeyIndex}
-use Rattle.vch_state.specs.Shape.{Optional, Pairwise}
+use Rattle.vch_frame.specs.declared.frame.KeyIndex.{KeyIndex}
+use Rattle.vch_frame.specs.Pairs.{Optional, Pairwise}
 use Rattle.vch_values.specs.Parts.{KeyParts}
 use Rattle.vch_parts.specs.declared.frame.Frame.{Frame}
 use Rattle.vch_parts.specs.Plain.{Indices, Plain, Part, part_of, with_frame}

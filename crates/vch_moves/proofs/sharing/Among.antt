@@ -9,8 +9,8 @@ use Rattle.vch_machine.specs.Naming.{same_handles, is_known}
 use Rattle.vch_machine.specs.State as machine
 use Rattle.vch_machine.specs.State.{Handles, Machine, tasked, idle}
 use Rattle.vch_legal.proofs.CallerLemmas.{handles_eq, IsAmong, before, behind, all_split}
-use Rattle.vch_state.specs.Pictures.{listed}
-use Rattle.vch_state.proofs.CallerLemmas.{cases_of}
+use Rattle.vch_frame.specs.Indices.{listed}
+use Rattle.vch_frame.proofs.CallerLemmas.{cases_of}
 use Rattle.vch_parts.specs.Plain.{Plain}
 use Rattle.vch_parts.specs.Pictures.{picture_of, task_vouchers, option_handles}
 use Rattle.vch_moves.specs.Known.{holds_in, known_in, is_among, vouchers_in, frames_in}

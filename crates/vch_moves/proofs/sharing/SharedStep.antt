@@ -8,7 +8,7 @@ use Rattle.vch_base.specs.Tasks.{set_task}
 use Rattle.vch_model.specs.declared.entry.Entry.{Entry}
 use Rattle.vch_model.specs.declared.lists.Scenario.{Scenario}
 use Rattle.vch_machine.specs.State.{Machine, Tasked, tasked}
-use Rattle.vch_state.specs.Pictures.{listed}
+use Rattle.vch_frame.specs.Indices.{listed}
 use Rattle.vch_values.specs.Parts.{KeyParts}
 use Rattle.vch_parts.specs.Plain.{Plain, Part, part_of}
 use Rattle.vch_parts.specs.Shape.{IsTask}

@@ -10,7 +10,7 @@ use Rattle.vch_entry.specs.Entries.{entry_at, handle_at, handle_of, made_of, Wri
 use Rattle.vch_value.specs.Picture.{Picture, Depicts}
 use Rattle.vch_model.specs.declared.lists.Scenario.{Scenario}
 use Rattle.vch_machine.specs.State.{Machine}
-use Rattle.vch_state.specs.Shape.{Optional}
+use Rattle.vch_frame.specs.Pairs.{Optional}
 use Rattle.vch_values.specs.Parts.{KeyParts}
 use Rattle.vch_parts.specs.Plain.{Plain}
 use Rattle.vch_parts.specs.Shape.{IsIndexOf}

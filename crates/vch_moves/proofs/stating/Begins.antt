@@ -11,7 +11,7 @@ use Rattle.vch_machine.specs.Beginning as begins
 use Rattle.vch_machine.specs.Frames as frames
 use Rattle.vch_machine.specs.Frames.{refuse}
 use Rattle.vch_machine.specs.Naming.{is_known}
-use Rattle.vch_state.specs.Shape.{Pairwise}
+use Rattle.vch_frame.specs.Pairs.{Pairwise}
 use Rattle.vch_values.specs.Parts.{KeyParts}
 use Rattle.vch_vouchers.specs.declared.answers.Message.{Message}
 use Rattle.vch_parts.specs.declared.frame.Frame.{Frame}

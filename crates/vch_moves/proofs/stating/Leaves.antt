@@ -10,7 +10,7 @@ use Rattle.vch_machine.specs.Beginning as begins
 use Rattle.vch_machine.specs.Naming.{handles_of}
 use Rattle.vch_machine.specs.Next.{nth_call}
 use Rattle.vch_machine.specs.Working.{do_gone, do_lost, do_left}
-use Rattle.vch_state.specs.Shape.{Pairwise}
+use Rattle.vch_frame.specs.Pairs.{Pairwise}
 use Rattle.vch_vouchers.specs.declared.answers.Message.{Message}
 use Rattle.vch_parts.specs.declared.frame.Frame.{Frame}
 use Rattle.vch_parts.specs.Plain.{Plain, part_of}

@@ -7,7 +7,7 @@ use Rattle.vch_machine.specs.State as machine
 use Rattle.vch_machine.specs.State.{Handles, Machine, tasked}
 use Rattle.vch_machine.specs.Next.{nth_call}
 use Rattle.vch_machine.specs.Placing.{place_create, place_send, place_recv}
-use Rattle.vch_state.specs.Shape.{Pairwise}
+use Rattle.vch_frame.specs.Pairs.{Pairwise}
 use Rattle.vch_vouchers.specs.declared.answers.Message.{Message}
 use Rattle.vch_parts.specs.declared.frame.Frame.{Frame}
 use Rattle.vch_parts.specs.Plain.{Indices, Plain, part_of}

@@ -9,8 +9,8 @@ use Rattle.vch_machine.specs.State as machine
 use Rattle.vch_machine.specs.State.{Handles, Place, Machine, Tasked, tasked}
 use Rattle.vch_machine.specs.Frames as frames
 use Rattle.vch_machine.specs.Working.{WorkDone, changed_each}
-use Rattle.vch_state.specs.Pictures.{listed}
-use Rattle.vch_state.proofs.CallerLemmas.{pairwise}
+use Rattle.vch_frame.specs.Indices.{listed}
+use Rattle.vch_frame.proofs.CallerLemmas.{pairwise}
 use Rattle.vch_values.specs.Parts.{KeyParts}
 use Rattle.vch_parts.specs.declared.frame.Frame.{Frame}
 use Rattle.vch_parts.specs.Plain.{Indices, Plain, part_of, with_frame}

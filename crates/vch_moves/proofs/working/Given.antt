@@ -8,8 +8,8 @@ use Rattle.vch_base.specs.Keyed.{of_key}
 use Rattle.vch_base.specs.Managers.{count}
 use Rattle.vch_machine.specs.Naming.{item}
 use Rattle.vch_machine.specs.Working.{WorkDone, changed, changed_each}
-use Rattle.vch_state.specs.Pictures.{listed}
-use Rattle.vch_state.proofs.CallerLemmas.{of_with, same_key_refl}
+use Rattle.vch_frame.specs.Indices.{listed}
+use Rattle.vch_frame.proofs.CallerLemmas.{of_with, same_key_refl}
 use Rattle.vch_values.proofs.CallerLemmas.{key_cases}
 use Rattle.vch_parts.proofs.CallerLemmas.{other_with}
 use Rattle.vch_moves.specs.Known.{holds_in}

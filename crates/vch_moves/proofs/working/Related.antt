@@ -6,9 +6,10 @@ use Rattle.vch_base.specs.Keyed.{Keyed, of_key}
 use Rattle.vch_machine.specs.Naming.{item}
 use Rattle.vch_machine.specs.State.{Handles}
 use Rattle.vch_machine.specs.Working.{WorkDone, changed, changed_each}
-use Rattle.vch_state.specs.Moves.{let_at}
-use Rattle.vch_state.specs.Shape.{index_of, Optional, Pairwise}
-use Rattle.vch_state.proofs.CallerLemmas.{same_key_refl}
+use Rattle.vch_frame.specs.Pairs.{Optional, Pairwise}
+use Rattle.vch_frame.specs.Indices.{index_of}
+use Rattle.vch_frame.specs.Releases.{let_at}
+use Rattle.vch_frame.proofs.CallerLemmas.{same_key_refl}
 use Rattle.vch_values.specs.Parts.{KeyParts}
 use Rattle.vch_parts.specs.Plain.{Indices}
 use Rattle.vch_parts.specs.Shape.{IsIndexOf, IsMap, IsLet}

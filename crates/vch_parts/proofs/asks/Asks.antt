@@ -31,12 +31,12 @@ use Rattle.vch_machine.specs.Leaving.{released, do_ask, more_free, made_of, one_
 use Rattle.vch_legal.specs.Tie.{Ties}
 use Rattle.vch_legal.specs.ValueAmounts.{amount_of}
 use Rattle.vch_legal.proofs.CallerLemmas.{without_here, without_other, released_amount}
-use Rattle.vch_state.specs.declared.frame.Claiming.{Claiming}
-use Rattle.vch_state.specs.declared.frame.KeyIndex.{KeyIndex}
-use Rattle.vch_state.specs.Moves.{noted_release, less_room}
-use Rattle.vch_state.specs.Pictures.{claimed}
-use Rattle.vch_state.specs.Stands.{IsLiving}
-use Rattle.vch_state.proofs.CallerLemmas.{same_at}
+use Rattle.vch_frame.specs.declared.frame.Claiming.{Claiming}
+use Rattle.vch_frame.specs.declared.frame.KeyIndex.{KeyIndex}
+use Rattle.vch_frame.specs.Releases.{noted_release, less_room}
+use Rattle.vch_frame.specs.Claims.{claimed}
+use Rattle.vch_frame.specs.Living.{IsLiving}
+use Rattle.vch_frame.proofs.CallerLemmas.{same_at}
 use Rattle.vch_values.proofs.CallerLemmas.{of_with, same_key_refl}
 use Rattle.vch_values.specs.Parts.{KeyParts, number_at, rules_at}
 use Rattle.vch_parts.specs.declared.frame.Frame.{Frame}

@@ -29,10 +29,10 @@ use Rattle.vch_machine.specs.State.{Place, Machine, tasked}
 use Rattle.vch_machine.specs.Next.{next_kind}
 use Rattle.vch_machine.specs.Events.{event}
 use Rattle.vch_legal.specs.Tie.{Ties}
-use Rattle.vch_state.specs.declared.frame.Claiming.{Claiming}
-use Rattle.vch_state.specs.Pictures.{claimed}
-use Rattle.vch_state.specs.Shape.{Optional}
-use Rattle.vch_state.proofs.CallerLemmas.{there_of, event_is}
+use Rattle.vch_frame.specs.declared.frame.Claiming.{Claiming}
+use Rattle.vch_frame.specs.Pairs.{Optional}
+use Rattle.vch_frame.specs.Claims.{claimed}
+use Rattle.vch_frame.proofs.CallerLemmas.{there_of, event_is}
 use Rattle.vch_values.specs.Parts.{KeyParts, number_at}
 use Rattle.vch_parts.specs.declared.frame.Frame.{Frame}
 use Rattle.vch_parts.specs.Plain.{Plain, part_of}

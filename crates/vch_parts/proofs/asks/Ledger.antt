@@ -24,7 +24,7 @@ use Rattle.vch_machine.specs.State.{Place, Living, Machine, living_at, seen}
 use Rattle.vch_legal.specs.Tie.{Ties}
 use Rattle.vch_legal.specs.ValueAmounts.{amount_of}
 use Rattle.vch_legal.proofs.CallerLemmas.{numbered, not_true}
-use Rattle.vch_state.proofs.CallerLemmas.{task_number}
+use Rattle.vch_frame.proofs.CallerLemmas.{task_number}
 use Rattle.vch_model.specs.Lines.{is_task}
 use Rattle.vch_parts.specs.Stands.{Ledgers}
 

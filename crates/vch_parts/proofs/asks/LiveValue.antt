@@ -11,7 +11,7 @@ use Rattle.vch_model.specs.Totals.{with_made}
 use Rattle.vch_machine.specs.State.{Place, Living, Machine, living_at}
 use Rattle.vch_legal.specs.Tie.{Ties}
 use Rattle.vch_legal.proofs.CallerLemmas.{plain_numbered}
-use Rattle.vch_state.specs.Stands.{IsLiving}
+use Rattle.vch_frame.specs.Living.{IsLiving}
 use Rattle.vch_values.specs.Parts.{number_at}
 use Rattle.vch_parts.specs.Plain.{Plain}
 use Rattle.vch_parts.specs.Stands.{StandsFor}

@@ -7,11 +7,11 @@ use Rattle.vch_value.specs.Picture.{claims_at, Claimed}
 use Rattle.vch_machine.specs.State as machine
 use Rattle.vch_machine.specs.State.{Place, same_place, Claim, Machine, Tasked, tasked, idle, claim_at, frame_claims, claims_on, is_empty}
 use Rattle.vch_parts.specs.declared.frame.Frame.{Frame}
-use Rattle.vch_state.specs.declared.frame.Claiming.{Claiming}
+use Rattle.vch_frame.specs.declared.frame.Claiming.{Claiming}
 use Rattle.vch_parts.specs.Plain.{Plain, Part, part_of, idle_part}
-use Rattle.vch_state.specs.Shape.{Optional}
+use Rattle.vch_frame.specs.Pairs.{Optional}
 use Rattle.vch_parts.specs.Shape.{Shape, IsFrame}
-use Rattle.vch_state.specs.Pictures.{sync_of}
+use Rattle.vch_frame.specs.Claims.{sync_of}
 use Rattle.vch_parts.specs.Pictures.{picture_of, Both, both, frame_claimed, claimed_of}
 use Rattle.vch_base.specs.Keys.{same_key}
 

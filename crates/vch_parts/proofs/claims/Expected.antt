@@ -9,9 +9,9 @@ use Rattle.vch_value.specs.Picture.{flags_at, is_met}
 use Rattle.vch_machine.specs.State as machine
 use Rattle.vch_machine.specs.State.{Place, same_place, Claim, Machine, Tasked, tasked, idle, is_place, frame_expects, is_expected, claim_at, frame_claims, claims_on, is_empty}
 use Rattle.vch_parts.specs.declared.frame.Frame.{Frame}
-use Rattle.vch_state.specs.declared.frame.KeyReceipt.{KeyReceipt}
+use Rattle.vch_frame.specs.declared.frame.KeyReceipt.{KeyReceipt}
 use Rattle.vch_parts.specs.Plain.{Plain, Part, part_of, idle_part}
-use Rattle.vch_state.specs.Shape.{Optional}
+use Rattle.vch_frame.specs.Pairs.{Optional}
 use Rattle.vch_parts.specs.Shape.{Shape, IsReceipt, IsFrame}
 use Rattle.vch_parts.specs.Pictures.{picture_of, receipt_of, receipts_of}
 use Rattle.vch_base.specs.Keys.{same_key}

@@ -13,12 +13,12 @@ use Rattle.vch_machine.specs.Making.{race_claim, back_claim, on_claim, on_frame,
 use Rattle.vch_legal.proofs.CallerLemmas.{flat_map_map}
 use Rattle.vch_legal.proofs.CallerLemmas.{claims_task}
 use Rattle.vch_parts.specs.declared.frame.Frame.{Frame}
-use Rattle.vch_state.specs.declared.frame.Claiming.{Claiming}
+use Rattle.vch_frame.specs.declared.frame.Claiming.{Claiming}
 use Rattle.vch_parts.specs.Plain.{Plain, Part, part_of}
-use Rattle.vch_state.specs.Shape.{Optional}
+use Rattle.vch_frame.specs.Pairs.{Optional}
 use Rattle.vch_values.specs.Parts.{KeyParts}
 use Rattle.vch_parts.specs.Shape.{Shape, IsClaim, IsFrame, IsTask}
-use Rattle.vch_state.specs.Pictures.{claimed, sync_of}
+use Rattle.vch_frame.specs.Claims.{claimed, sync_of}
 use Rattle.vch_parts.specs.Pictures.{Both, both, picture_of, task_holds, frame_holds, frame_claimed, claimed_of, both_claimed, task_vouchers}
 use Rattle.vch_base.specs.Keys.{same_key}
 use Rattle.vch_base.specs.Keyed.{Keyed}

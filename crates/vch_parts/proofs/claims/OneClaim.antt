@@ -13,9 +13,9 @@ use Rattle.vch_value.proofs.CallerLemmas.{claims_here, only}
 use Rattle.vch_model.specs.declared.lists.Scenario.{Scenario}
 use Rattle.vch_machine.specs.State as machine
 use Rattle.vch_machine.specs.State.{Place, Machine, Tasked, tasked}
-use Rattle.vch_state.specs.declared.frame.Claiming.{Claiming}
-use Rattle.vch_state.specs.declared.frame.KeyIndex.{KeyIndex}
-use Rattle.vch_state.specs.Pictures.{claimed, sync_of}
+use Rattle.vch_frame.specs.declared.frame.Claiming.{Claiming}
+use Rattle.vch_frame.specs.declared.frame.KeyIndex.{KeyIndex}
+use Rattle.vch_frame.specs.Claims.{claimed, sync_of}
 use Rattle.vch_values.proofs.CallerLemmas.{same_key_refl}
 use Rattle.vch_parts.specs.declared.frame.Frame.{Frame}
 use Rattle.vch_parts.specs.Plain.{Plain, part_of, with_frame}

@@ -20,7 +20,7 @@ use Rattle.vch_machine.specs.State as machine
 use Rattle.vch_machine.specs.State.{Handles, Place, Living, Machine, Tasked, idle, tasked, member_of, named_of, message_of, seen}
 use Rattle.vch_legal.specs.Facts.{OptionFits}
 use Rattle.vch_legal.specs.Tie.{Ties}
-use Rattle.vch_state.specs.Pictures.{listed}
+use Rattle.vch_frame.specs.Indices.{listed}
 use Rattle.vch_parts.specs.declared.parts.Parts.{Parts}
 use Rattle.vch_parts.specs.Plain.{Plain}
 use Rattle.vch_parts.specs.Pictures.{picture_of, option_handles, task_vouchers, different, known_vouchers, voucher_holds, let_holds, forming_holds, frame_holds, task_holds}

@@ -17,11 +17,13 @@ use Rattle.vch_model.specs.Rows as rows
 use Rattle.vch_model.specs.declared.call.Call.{Call}
 use Rattle.vch_model.specs.declared.entry.Entry.{Entry}
 use Rattle.vch_machine.specs.Next.{nth_call}
-use Rattle.vch_state.specs.declared.frame.Claiming.{Claiming}
-use Rattle.vch_state.specs.declared.frame.KeyIndex.{KeyIndex}
-use Rattle.vch_state.specs.declared.frame.KeyReceipt.{KeyReceipt}
-use Rattle.vch_state.specs.declared.tally.Tally.{Tally}
-use Rattle.vch_state.specs.Moves.{claiming, more_claims, one_asked, one_referred, noted_release, less_room}
+use Rattle.vch_frame.specs.declared.frame.Claiming.{Claiming}
+use Rattle.vch_frame.specs.declared.frame.KeyIndex.{KeyIndex}
+use Rattle.vch_frame.specs.declared.frame.KeyReceipt.{KeyReceipt}
+use Rattle.vch_frame.specs.declared.tally.Tally.{Tally}
+use Rattle.vch_frame.specs.Releases.{noted_release, less_room}
+use Rattle.vch_frame.specs.Claims.{claiming}
+use Rattle.vch_frame.specs.Tallies.{more_claims, one_asked, one_referred}
 use Rattle.vch_parts.specs.declared.frame.Frame.{Frame}
 use Rattle.vch_parts.specs.declared.frames.Working.{Working}
 use Rattle.vch_parts.specs.declared.parts.Parts.{Parts}

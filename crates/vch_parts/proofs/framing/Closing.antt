@@ -6,9 +6,9 @@ use Rattle.vch_base.specs.Keyed.{Keyed}
 use Rattle.vch_machine.specs.State as machine
 use Rattle.vch_machine.specs.State.{is_empty}
 use Rattle.vch_machine.specs.Frames as frames
-use Rattle.vch_state.specs.declared.frame.Claiming.{Claiming}
-use Rattle.vch_state.specs.Plain.{is_nothing}
-use Rattle.vch_state.specs.Shape.{Optional, Pairwise}
+use Rattle.vch_frame.specs.declared.frame.Claiming.{Claiming}
+use Rattle.vch_frame.specs.Pairs.{Optional, Pairwise}
+use Rattle.vch_frame.specs.Claims.{is_nothing}
 use Rattle.vch_values.specs.Parts.{KeyParts}
 use Rattle.vch_parts.specs.declared.frame.Frame.{Frame}
 use Rattle.vch_parts.specs.Plain.{closed, stays}

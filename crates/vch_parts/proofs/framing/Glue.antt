@@ -10,8 +10,8 @@ use Rattle.vch_machine.specs.Events.{event}
 use Rattle.vch_machine.specs.Schedules.{Move}
 use Rattle.vch_legal.specs.Tie.{Ties}
 use Rattle.vch_legal.proofs.CallerLemmas.{reached_stands}
-use Rattle.vch_state.specs.Shape.{Optional}
-use Rattle.vch_state.proofs.CallerLemmas.{task_number, run_on}
+use Rattle.vch_frame.specs.Pairs.{Optional}
+use Rattle.vch_frame.proofs.CallerLemmas.{task_number, run_on}
 use Rattle.vch_parts.specs.declared.frame.Frame.{Frame}
 use Rattle.vch_parts.specs.Plain.{Plain, part_of}
 use Rattle.vch_parts.specs.Shape.{IsFrame}

@@ -22,11 +22,12 @@ use Rattle.vch_machine.specs.Next as next
 use Rattle.vch_machine.specs.State as machine
 use Rattle.vch_machine.specs.State.{Handles, Place, Machine, Tasked, tasked, is_empty}
 use Rattle.vch_legal.proofs.CallerLemmas.{reached_stands}
-use Rattle.vch_state.specs.declared.frame.Claiming.{Claiming}
-use Rattle.vch_state.specs.declared.frame.KeyIndex.{KeyIndex}
-use Rattle.vch_state.specs.declared.frame.KeyReceipt.{KeyReceipt}
-use Rattle.vch_state.specs.Reached.{claim_kind, lets_kind}
-use Rattle.vch_state.specs.Shape.{Optional, Pairwise}
+use Rattle.vch_frame.specs.declared.frame.Claiming.{Claiming}
+use Rattle.vch_frame.specs.declared.frame.KeyIndex.{KeyIndex}
+use Rattle.vch_frame.specs.declared.frame.KeyReceipt.{KeyReceipt}
+use Rattle.vch_frame.specs.Pairs.{Optional, Pairwise}
+use Rattle.vch_frame.specs.Releases.{lets_kind}
+use Rattle.vch_frame.specs.Claims.{claim_kind}
 use Rattle.vch_parts.specs.declared.frame.Frame.{Frame}
 use Rattle.vch_parts.specs.declared.frames.Working.{Working}
 use Rattle.vch_parts.specs.declared.parts.Parts.{Parts}

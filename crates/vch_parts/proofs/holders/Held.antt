@@ -12,8 +12,8 @@ use Rattle.vch_machine.specs.Naming.{same_handles}
 use Rattle.vch_machine.specs.State as machine
 use Rattle.vch_machine.specs.State.{Handles, Place, same_place, Named, Message, Machine, Tasked, has_place, option_has, is_held, is_handle}
 use Rattle.vch_legal.proofs.CallerLemmas.{handles_eq}
-use Rattle.vch_state.specs.Pictures.{listed}
-use Rattle.vch_state.proofs.CallerLemmas.{cases_of}
+use Rattle.vch_frame.specs.Indices.{listed}
+use Rattle.vch_frame.proofs.CallerLemmas.{cases_of}
 use Rattle.vch_parts.specs.Plain.{Plain}
 use Rattle.vch_parts.specs.Pictures.{option_handles, task_vouchers, different, known_vouchers, voucher_holds, let_holds, forming_holds, frame_holds, task_holds, picture_of}
 

@@ -5,10 +5,10 @@ use Rattle.vch_base.specs.Keys.{every_key}
 use Rattle.vch_base.specs.Keyed.{Keyed, of_key}
 use Rattle.vch_machine.specs.State as machine
 use Rattle.vch_machine.specs.State.{Handles, Place, Tasked}
-use Rattle.vch_state.specs.declared.frame.Claiming.{Claiming}
-use Rattle.vch_state.specs.declared.frame.KeyIndex.{KeyIndex}
-use Rattle.vch_state.specs.Shape.{index_of}
-use Rattle.vch_state.proofs.CallerLemmas.{pairwise, optional}
+use Rattle.vch_frame.specs.declared.frame.Claiming.{Claiming}
+use Rattle.vch_frame.specs.declared.frame.KeyIndex.{KeyIndex}
+use Rattle.vch_frame.specs.Indices.{index_of}
+use Rattle.vch_frame.proofs.CallerLemmas.{pairwise, optional}
 use Rattle.vch_values.specs.Parts.{KeyParts}
 use Rattle.vch_parts.specs.declared.frame.Frame.{Frame}
 use Rattle.vch_parts.specs.Plain.{Indices, Part}

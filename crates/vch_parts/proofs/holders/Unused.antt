@@ -12,12 +12,13 @@ use Rattle.vch_legal.proofs.CallerLemmas.{before, behind}
 use Rattle.vch_base.specs.Tasks.{at_task}
 use Rattle.vch_values.specs.Parts.{KeyParts}
 use Rattle.vch_parts.specs.declared.frame.Frame.{Frame}
-use Rattle.vch_state.specs.declared.frame.Claiming.{Claiming}
-use Rattle.vch_state.specs.declared.frame.KeyIndex.{KeyIndex}
+use Rattle.vch_frame.specs.declared.frame.Claiming.{Claiming}
+use Rattle.vch_frame.specs.declared.frame.KeyIndex.{KeyIndex}
 use Rattle.vch_parts.specs.Plain.{Indices, Part}
 use Rattle.vch_vouchers.specs.Desks as desks
 use Rattle.vch_vouchers.specs.declared.answers.Message as answers
-use Rattle.vch_state.specs.Shape.{index_of, Pairwise, Optional}
+use Rattle.vch_frame.specs.Pairs.{Pairwise, Optional}
+use Rattle.vch_frame.specs.Indices.{index_of}
 use Rattle.vch_parts.specs.Shape.{IsIndexOf, AreIndices, IsMap, IsName, IsMessage, IsLet, IsClaim, IsFrame, IsTask}
 use Rattle.vch_base.specs.Keys.{same_key}
 

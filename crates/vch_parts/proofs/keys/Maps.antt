@@ -6,7 +6,8 @@ use Rattle.vch_base.specs.Keys.{number_of, key_numbered, every_key}
 use Rattle.vch_base.specs.Keyed.{Keyed, of_key, with_key}
 use Rattle.vch_table.specs.Indices.{Bounded, SetsIndex}
 use Rattle.vch_machine.specs.State.{Handles}
-use Rattle.vch_state.specs.Shape.{Optional, index_of}
+use Rattle.vch_frame.specs.Pairs.{Optional}
+use Rattle.vch_frame.specs.Indices.{index_of}
 use Rattle.vch_values.proofs.CallerLemmas.{of_with}
 use Rattle.vch_values.specs.Parts.{KeyParts}
 use Rattle.vch_parts.specs.Plain.{Indices}

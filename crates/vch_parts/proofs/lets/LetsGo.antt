@@ -21,12 +21,12 @@ use Rattle.vch_machine.specs.Frames as frames
 use Rattle.vch_machine.specs.Leaving as leaving
 use Rattle.vch_machine.specs.Leaving.{claim_if, is_fixed, is_fixed_value}
 use Rattle.vch_legal.specs.Tie.{Ties}
-use Rattle.vch_state.specs.declared.frame.Claiming.{Claiming}
-use Rattle.vch_state.specs.declared.frame.KeyIndex.{KeyIndex}
-use Rattle.vch_state.specs.Moves.{claiming, more_claims}
-use Rattle.vch_state.specs.Pictures.{claimed}
-use Rattle.vch_state.specs.Shape.{Optional}
-use Rattle.vch_state.specs.Stands.{IsLiving, SameTally}
+use Rattle.vch_frame.specs.declared.frame.Claiming.{Claiming}
+use Rattle.vch_frame.specs.declared.frame.KeyIndex.{KeyIndex}
+use Rattle.vch_frame.specs.Pairs.{Optional}
+use Rattle.vch_frame.specs.Claims.{claiming, claimed}
+use Rattle.vch_frame.specs.Tallies.{more_claims, SameTally}
+use Rattle.vch_frame.specs.Living.{IsLiving}
 use Rattle.vch_values.proofs.CallerLemmas.{same_key_refl}
 use Rattle.vch_values.specs.Parts.{number_at}
 use Rattle.vch_parts.specs.declared.frame.Frame.{Frame}

@@ -18,8 +18,8 @@ use Rattle.vch_machine.specs.Events.{is_at_rest, all_at_rest, numbers, phase_eve
 use Rattle.vch_machine.specs.Frames.{noted}
 use Rattle.vch_machine.specs.Schedules.{Move}
 use Rattle.vch_legal.proofs.CallerLemmas.{reached_stands, all_numbers, phase_uncounted}
-use Rattle.vch_state.specs.Shape.{Optional}
-use Rattle.vch_state.proofs.CallerLemmas.{run_on}
+use Rattle.vch_frame.specs.Pairs.{Optional}
+use Rattle.vch_frame.proofs.CallerLemmas.{run_on}
 use Rattle.vch_parts.specs.declared.frame.Frame.{Frame}
 use Rattle.vch_parts.specs.declared.parts.Parts.{Parts}
 use Rattle.vch_parts.specs.Framed.{begun_of}

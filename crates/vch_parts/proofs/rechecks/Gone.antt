@@ -14,11 +14,11 @@ use Rattle.vch_machine.specs.State as machine
 use Rattle.vch_machine.specs.State.{Place, Named, Message, Machine, Tasked, tasked, idle, same_place, task_holds, frame_claims, frame_holds, has_place, option_has, is_held, claims_on}
 use Rattle.vch_legal.specs.Tie.{Ties}
 use Rattle.vch_legal.proofs.CallerLemmas.{before, behind, all_split}
-use Rattle.vch_state.specs.declared.frame.Claiming.{Claiming}
-use Rattle.vch_state.specs.declared.frame.KeyIndex.{KeyIndex}
-use Rattle.vch_state.specs.Pictures.{claimed}
+use Rattle.vch_frame.specs.declared.frame.Claiming.{Claiming}
+use Rattle.vch_frame.specs.declared.frame.KeyIndex.{KeyIndex}
+use Rattle.vch_frame.specs.Claims.{claimed}
 use Rattle.vch_values.proofs.CallerLemmas.{same_key_refl}
-use Rattle.vch_state.proofs.CallerLemmas.{at_place as item_at}
+use Rattle.vch_frame.proofs.CallerLemmas.{at_place as item_at}
 use Rattle.vch_values.specs.Parts.{KeyParts}
 use Rattle.vch_parts.specs.declared.frame.Frame.{Frame}
 use Rattle.vch_parts.specs.Plain.{Plain, part_of, with_frame}

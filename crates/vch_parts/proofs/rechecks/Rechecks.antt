@@ -18,10 +18,9 @@ use Rattle.vch_machine.specs.State.{Place, Machine, Tasked, tasked, is_held, is_
 use Rattle.vch_machine.specs.Frames as frames
 use Rattle.vch_machine.specs.Leaving as leaving
 use Rattle.vch_legal.specs.Tie.{Ties}
-use Rattle.vch_state.specs.declared.frame.Claiming.{Claiming}
-use Rattle.vch_state.specs.declared.frame.KeyIndex.{KeyIndex}
-use Rattle.vch_state.specs.Moves.{claiming}
-use Rattle.vch_state.specs.Pictures.{claimed}
+use Rattle.vch_frame.specs.declared.frame.Claiming.{Claiming}
+use Rattle.vch_frame.specs.declared.frame.KeyIndex.{KeyIndex}
+use Rattle.vch_frame.specs.Claims.{claiming, claimed}
 use Rattle.vch_values.proofs.CallerLemmas.{same_key_refl}
 use Rattle.vch_parts.specs.declared.frame.Frame.{Frame}
 use Rattle.vch_parts.specs.Plain.{Plain, part_of, with_frame, closed}

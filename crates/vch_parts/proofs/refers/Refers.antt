@@ -21,10 +21,10 @@ use Rattle.vch_machine.specs.Making.{back_claim, on_claims, one_refer, do_refer}
 use Rattle.vch_machine.specs.Naming.{item}
 use Rattle.vch_legal.specs.Tie.{moved_place, moved_keys}
 use Rattle.vch_legal.proofs.CallerLemmas.{claims_task}
-use Rattle.vch_state.specs.declared.frame.Claiming.{Claiming}
-use Rattle.vch_state.specs.Moves.{let_at}
-use Rattle.vch_state.specs.Pictures.{listed}
-use Rattle.vch_state.specs.Shape.{Pairwise, Optional, index_of}
+use Rattle.vch_frame.specs.declared.frame.Claiming.{Claiming}
+use Rattle.vch_frame.specs.Pairs.{Pairwise, Optional}
+use Rattle.vch_frame.specs.Indices.{listed, index_of}
+use Rattle.vch_frame.specs.Releases.{let_at}
 use Rattle.vch_values.proofs.CallerLemmas.{of_with, same_key_refl}
 use Rattle.vch_values.specs.Parts.{KeyParts}
 use Rattle.vch_parts.specs.declared.frame.Frame.{Frame}

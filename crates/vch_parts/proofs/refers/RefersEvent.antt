@@ -27,12 +27,13 @@ use Rattle.vch_machine.specs.Events.{event, event_of}
 use Rattle.vch_machine.specs.Next.{current, nth_call, next_kind}
 use Rattle.vch_legal.specs.Facts.{FrameFits, OptionFits}
 use Rattle.vch_legal.specs.Tie.{Ties, IsForming, FrameForms, Awaits, AsksAt, AsksFirst}
-use Rattle.vch_state.specs.declared.frame.Claiming.{Claiming}
-use Rattle.vch_state.specs.declared.frame.KeyIndex.{KeyIndex}
-use Rattle.vch_state.specs.declared.frame.KeyReceipt.{KeyReceipt}
-use Rattle.vch_state.specs.Shape.{Optional, Pairwise, index_of}
-use Rattle.vch_state.specs.Moves.{let_at}
-use Rattle.vch_state.proofs.CallerLemmas.{event_is, room_for}
+use Rattle.vch_frame.specs.declared.frame.Claiming.{Claiming}
+use Rattle.vch_frame.specs.declared.frame.KeyIndex.{KeyIndex}
+use Rattle.vch_frame.specs.declared.frame.KeyReceipt.{KeyReceipt}
+use Rattle.vch_frame.specs.Pairs.{Optional, Pairwise}
+use Rattle.vch_frame.specs.Indices.{index_of}
+use Rattle.vch_frame.specs.Releases.{let_at}
+use Rattle.vch_frame.proofs.CallerLemmas.{event_is, room_for}
 use Rattle.vch_values.specs.Parts.{KeyParts}
 use Rattle.vch_parts.specs.declared.frame.Frame.{Frame}
 use Rattle.vch_parts.specs.Plain.{Indices, Plain, part_of}

@@ -7,7 +7,7 @@ use Rattle.vch_base.specs.Managers.{count}
 use Rattle.vch_entry.specs.Entries.{IsApart, AreBelow, handle_at, entry_at, refs_of, made_of}
 use Rattle.vch_value.specs.Picture.{entry_of}
 use Rattle.vch_value.proofs.CallerLemmas.{entry_is}
-use Rattle.vch_state.proofs.CallerLemmas.{entry_of_handle}
+use Rattle.vch_frame.proofs.CallerLemmas.{entry_of_handle}
 use Rattle.vch_parts.specs.declared.parts.Parts.{Parts}
 use Rattle.vch_parts.specs.Pictures.{picture_of}
 use Rattle.vch_parts.specs.Reached.{plain_of, Reached}

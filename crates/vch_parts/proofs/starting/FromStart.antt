@@ -20,7 +20,7 @@ use Rattle.vch_model.specs.Store.{limit_of}
 use Rattle.vch_model.specs.declared.lists.Scenario.{Scenario}
 use Rattle.vch_machine.specs.State.{Tasked, idle, tasked, living_at, default_living, start}
 use Rattle.vch_legal.specs.ValueAmounts.{amount_of}
-use Rattle.vch_state.specs.Stands.{IsLiving}
+use Rattle.vch_frame.specs.Living.{IsLiving}
 use Rattle.vch_parts.specs.Fresh.{fresh_parts, IsFresh}
 use Rattle.vch_parts.specs.Plain.{Plain, Part, idle_part, part_of}
 use Rattle.vch_parts.specs.Shape.{IsTask}

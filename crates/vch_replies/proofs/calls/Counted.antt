@@ -21,7 +21,7 @@ use Rattle.vch_model.specs.Totals.{external, last_is, tasks_of}
 use Rattle.vch_machine.specs.Beginning.{store_reply}
 use Rattle.vch_machine.specs.State.{Machine}
 use Rattle.vch_legal.specs.ValueAmounts.{amount_of}
-use Rattle.vch_state.specs.Shape.{index_of}
+use Rattle.vch_frame.specs.Indices.{index_of}
 use Rattle.vch_vouchers.specs.Desks.{Voucher}
 use Rattle.vch_parts.specs.Plain.{Plain}
 use Rattle.vch_replies.specs.Begins.{Begins}

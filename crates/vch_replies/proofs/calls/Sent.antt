@@ -17,8 +17,8 @@ use Rattle.vch_machine.specs.Beginning.{store_reply}
 use Rattle.vch_machine.specs.State as machine
 use Rattle.vch_machine.specs.State.{Handles, Living, Machine, message_of, member_of, tasked, seen}
 use Rattle.vch_legal.proofs.CallerLemmas.{member_seen}
-use Rattle.vch_state.specs.Shape.{Optional, Pairwise}
-use Rattle.vch_state.proofs.CallerLemmas.{task_number}
+use Rattle.vch_frame.specs.Pairs.{Optional, Pairwise}
+use Rattle.vch_frame.proofs.CallerLemmas.{task_number}
 use Rattle.vch_vouchers.specs.Desks.{Voucher}
 use Rattle.vch_vouchers.specs.declared.answers.Message.{Message}
 use Rattle.vch_parts.specs.Plain.{Plain, part_of}

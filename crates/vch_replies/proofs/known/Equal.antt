@@ -14,7 +14,8 @@ use Rattle.vch_model.specs.Voucher.{equal_vouchers}
 use Rattle.vch_machine.specs.Naming.{same_handle, same_handles}
 use Rattle.vch_machine.specs.State.{Handles, Machine, valued}
 use Rattle.vch_legal.proofs.CallerLemmas.{LiveAll, same_vouchers, handles_eq}
-use Rattle.vch_state.specs.Shape.{Optional, index_of}
+use Rattle.vch_frame.specs.Pairs.{Optional}
+use Rattle.vch_frame.specs.Indices.{index_of}
 use Rattle.vch_vouchers.specs.Desks.{Voucher}
 use Rattle.vch_parts.specs.Plain.{Plain}
 use Rattle.vch_parts.specs.Shape.{IsIndexOf, IsMap, slots_of}

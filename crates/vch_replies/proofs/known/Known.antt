@@ -11,7 +11,7 @@ use Rattle.vch_machine.specs.State as machine
 use Rattle.vch_machine.specs.State.{Handles, Living, Machine, Place, Tasked, living_at, member_of, message_of, named_of, option_has, has_place, frame_holds, idle, tasked, seen, valued}
 use Rattle.vch_legal.specs.Facts.{Fits}
 use Rattle.vch_legal.proofs.CallerLemmas.{LiveAll, AllLive, held_live, names_live, voucher_live, or_left, or_right}
-use Rattle.vch_state.specs.Shape.{Optional, Pairwise}
+use Rattle.vch_frame.specs.Pairs.{Optional, Pairwise}
 use Rattle.vch_vouchers.specs.Desks.{Voucher, Named, vouchers_at, is_among, different}
 use Rattle.vch_vouchers.specs.declared.answers.Message.{Message}
 use Rattle.vch_parts.specs.Plain.{Part, Plain, idle_part}

@@ -16,7 +16,7 @@ use Rattle.vch_model.specs.declared.lists.Scenario.{Scenario}
 use Rattle.vch_machine.specs.State.{Living, Machine, living_at, handle_of}
 use Rattle.vch_legal.specs.ValueAmounts.{amount_of}
 use Rattle.vch_legal.proofs.CallerLemmas.{values_refl, values_eq, not_true}
-use Rattle.vch_state.specs.Stands.{IsLiving}
+use Rattle.vch_frame.specs.Living.{IsLiving}
 use Rattle.vch_values.specs.Parts.{KeyParts, number_at}
 use Rattle.vch_values.proofs.CallerLemmas.{key_cases, of_with}
 use Rattle.vch_parts.specs.Moves.{with_kept}

@@ -30,8 +30,8 @@ use Rattle.vch_machine.specs.Next.{nth_call}
 use Rattle.vch_machine.specs.State.{Machine}
 use Rattle.vch_legal.specs.ValueAmounts.{amount_of}
 use Rattle.vch_legal.proofs.CallerLemmas.{account_amount, account_ledger, own_amount, own_ledger, number_eq, not_true}
-use Rattle.vch_state.specs.Shape.{index_of}
-use Rattle.vch_state.proofs.CallerLemmas.{task_number}
+use Rattle.vch_frame.specs.Indices.{index_of}
+use Rattle.vch_frame.proofs.CallerLemmas.{task_number}
 use Rattle.vch_values.specs.Parts.{KeyParts}
 use Rattle.vch_values.proofs.CallerLemmas.{key_cases, of_with}
 use Rattle.vch_vouchers.specs.Desks.{Voucher}

@@ -27,7 +27,7 @@ use Rattle.vch_machine.specs.Next.{nth_call}
 use Rattle.vch_machine.specs.State.{Machine}
 use Rattle.vch_legal.specs.ValueAmounts.{amount_of, counted_on}
 use Rattle.vch_legal.proofs.CallerLemmas.{extern_amount, extern_ledger}
-use Rattle.vch_state.specs.Shape.{index_of}
+use Rattle.vch_frame.specs.Indices.{index_of}
 use Rattle.vch_vouchers.specs.Desks.{Voucher}
 use Rattle.vch_parts.specs.Plain.{Plain}
 use Rattle.vch_replies.specs.Begins.{Begins}

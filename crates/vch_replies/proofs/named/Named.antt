@@ -14,9 +14,10 @@ use Rattle.vch_machine.specs.Naming.{handles_of}
 use Rattle.vch_machine.specs.State as machine
 use Rattle.vch_machine.specs.State.{Handles, Living, Machine, living_at, value_at, valued, valued_option, tasked, seen}
 use Rattle.vch_legal.proofs.CallerLemmas.{names_seen, voucher_seen}
-use Rattle.vch_state.specs.Shape.{Optional, Pairwise, index_of}
-use Rattle.vch_state.specs.Stands.{IsLiving}
-use Rattle.vch_state.proofs.CallerLemmas.{task_number}
+use Rattle.vch_frame.specs.Pairs.{Optional, Pairwise}
+use Rattle.vch_frame.specs.Indices.{index_of}
+use Rattle.vch_frame.specs.Living.{IsLiving}
+use Rattle.vch_frame.proofs.CallerLemmas.{task_number}
 use Rattle.vch_values.specs.Parts.{number_at}
 use Rattle.vch_vouchers.specs.Desks.{Voucher, Named, voucher_of}
 use Rattle.vch_parts.specs.Plain.{Plain, part_of}

@@ -16,7 +16,7 @@ use Rattle.vch_model.specs.After.{store_of}
 use Rattle.vch_model.specs.Store.{Store, Alive}
 use Rattle.vch_machine.specs.State.{Place, Living, Machine, living_at, alive_of, same_place, default_living, default_place}
 use Rattle.vch_legal.proofs.CallerLemmas.{AtMostOnce, each_of, at_most_once, found_place, same_place_eq}
-use Rattle.vch_state.specs.Stands.{IsLiving}
+use Rattle.vch_frame.specs.Living.{IsLiving}
 use Rattle.vch_values.specs.Parts.{number_at}
 use Rattle.vch_values.proofs.CallerLemmas.{key_cases}
 use Rattle.vch_parts.specs.Plain.{Plain}

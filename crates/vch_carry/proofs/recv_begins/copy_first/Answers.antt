@@ -1,7 +1,7 @@
 use Rattle.std.proofs.Common.{◌∙◌, ap, refl, Some, false}
 use Rattle.std.specs.Prelude.{is_some}
 use Rattle.vch_base.specs.declared.key.Key.TheVariants as keys
-use Rattle.vch_state.specs.Shape.{index_of}
+use Rattle.vch_frame.specs.Indices.{index_of}
 use Rattle.vch_model.specs.declared.call.Call.TheVariants as calls
 use Rattle.vch_parts.specs.Asking.{marked}
 use Rattle.vch_parts.specs.Framed.{with_begun_of, with_frame_of}

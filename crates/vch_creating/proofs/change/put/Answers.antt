@@ -1,6 +1,6 @@
 use Rattle.std.proofs.Common.{◌≡◌, None, subst}
 use Rattle.vch_table.specs.Indices.{index_at}
-use Rattle.vch_state.proofs.CallerLemmas.{room_for}
+use Rattle.vch_frame.proofs.CallerLemmas.{room_for}
 use Rattle.vch_creating.proofs.change.put.Goals as goal
 
 pub set-requires : goal.set-requires

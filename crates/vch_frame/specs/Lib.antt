@@ -1,0 +1,6 @@
+pub mod Pairs
+pub mod Indices
+pub mod Releases
+pub mod Claims
+pub mod Tallies
+pub mod Living

@@ -1,4 +1,0 @@
-pub mod Claims
-pub mod Expected
-pub mod OnClaims
-pub mod OneClaim

@@ -1,2 +1,0 @@
-pub mod LetsGo
-pub mod LetsGoEvent

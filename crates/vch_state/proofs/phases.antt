@@ -1,2 +1,0 @@
-pub mod EachLine
-pub mod PhaseEnds

@@ -1,4 +1,0 @@
-pub mod Records
-pub mod Referring
-pub mod Refers
-pub mod RefersEvent

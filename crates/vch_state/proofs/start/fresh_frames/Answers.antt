@@ -1,7 +1,0 @@
-use Rattle.std.proofs.Common.{◌∙◌, ◌++◌, ◌∷◌, [], ap}
-use Rattle.vch_state.specs.Plain.{resting}
-use Rattle.vch_state.proofs.starting.Loops.{resting_next}
-use Rattle.vch_state.proofs.start.fresh_frames.Goals as goal
-
-pub loop-i-preserved : goal.loop-i-preserved
-loop-i-preserved c = c.in_ok-push.ensures.ok ∙ ap (λ xs. xs ++ resting ∷ []) c.loop-i.invariant ∙ resting_next c.loop-i._i

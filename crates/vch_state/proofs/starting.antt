@@ -1,2 +1,0 @@
-pub mod FromStart
-pub mod Loops
