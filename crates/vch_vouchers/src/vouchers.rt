@@ -59,7 +59,7 @@ impl Vouchers {
         })
     }
 
-    /// The voucher of a name, or none where the task has no such name. Linear in the names of the task.
+    /// The voucher of a name, or none where the task has no such name. Logarithmic in the names of the task.
     pub fn voucher(&self, task: u32, name: u32) -> Option<Indices>
         requires task { (1 ≤ task) × (task ≤ length self.now) }
         ensures { result ≡ voucher_of (desk self.now task).names name }
@@ -70,7 +70,7 @@ impl Vouchers {
         voucher_in(&self.table, slot)
     }
 
-    /// The lowest name of a task, or none where it has no name. Linear in its names.
+    /// The lowest name of a task, or none where it has no name. Constant time.
     pub fn first_name(&self, task: u32) -> Option<u32>
         requires task { (1 ≤ task) × (task ≤ length self.now) }
         ensures { result ≡ lowest (desk self.now task).names }
