@@ -1,6 +1,6 @@
 -- The tasks that have a next event, and the one that a seed chooses.
-use Rattle.std.proofs.Common.{◌≡◌, ℕ, zero, suc, ◌+◌, ◌-◌, ◌<◌, ◌≤◌, ◌%◌, Bool, true, false, List, [], ◌∷◌, ◌++◌, refl, arith, sym, ap, ◌∙◌, length, get_or, subst, Option, Some, None}
-use Rattle.std.specs.Prelude.{is_some, ◌==◌, if◌then◌else◌}
+use Rattle.std.proofs.Common.{◌≡◌, ℕ, zero, suc, ◌+◌, ◌-◌, ◌<◌, ◌≤◌, ◌%◌, Bool, true, false, List, [], ◌∷◌, ◌++◌, refl, arith, sym, ap, ◌∙◌, length, get_or, subst, Option, Some, None, IsTrue}
+use Rattle.std.specs.Prelude.{is_some, IsSome, ◌↔◌, ◌==◌, if◌then◌else◌}
 use Rattle.std.proofs.Math.Nat.{mod-lt}
 use Rattle.std.proofs.lemmas.Grind.{common_steps}
 use Rattle.std.specs.List.{AllByRecursion}
@@ -13,10 +13,12 @@ use Rattle.vch_machine.specs.Next.{next_kind}
 use Rattle.vch_machine.specs.Schedules.{picked, seed_after, next_seed, drawn}
 use Rattle.vch_legal.proofs.CallerLemmas.{all_tasks}
 use Rattle.vch_parts.specs.declared.parts.Parts.{Parts}
+use Rattle.vch_parts.specs.Framed.{frame_of}
 use Rattle.vch_parts.specs.Reached.{Reached, Stands, IsNext}
-use Rattle.vch_runs.specs.Turning.{all_of, AreReady, IsDraw, IsResting, CanGo}
-use Rattle.vch_runs.proofs.Framed.{reach, next_of}
-use Rattle.vch_runs.proofs.Turned.{for_all}
+use Rattle.vch_runs.specs.Turning.{all_of, AreReady, IsReady, IsDraw, IsResting, CanGo}
+use Rattle.vch_runs.specs.Called.{HasNext}
+use Rattle.vch_runs.proofs.Framed.{reach, next_of, is_true, to_true}
+use Rattle.vch_runs.proofs.Turned.{for_all, frame_can}
 
 -- the tasks below a number that have a next event; all of these are tasks
 pub record ReadyBelow (p : Parts) (t : ℕ) (tasks : List ℕ) : Type 0 where
@@ -47,20 +49,31 @@ length_one (y ∷ xs) x = let e : length (xs ++ x ∷ []) ≡ length xs + 1 = le
 pub ready_none_yet : (p : Parts) → ReadyBelow p 1 []
 ready_none_yet p = record { ready_is = λ m s. refl; few = omega arith }
 
-pub ready_more : (p : Parts) (t : ℕ) (tasks : List ℕ) (kind : Kind) → 0 < t → IsNext p t (Some kind) → ReadyBelow p t tasks → ReadyBelow p (t + 1) (tasks ++ t ∷ [])
-ready_more p t tasks kind l e r = record {
+-- a task with a frame has a next event, and one without it where there is a kind
+pub frame_ready : (p : Parts) (t : ℕ) (b : Bool) → Reached p → IsTrue (is_task p.scenario t) → IsTrue b ↔ IsSome (frame_of p.frames t) → b ≡ true → IsReady p t true
+unfolding IsReady HasNext
+frame_ready p t b r task i e m s = (frame_can p t r (is_true _ task, i.0 (to_true b e))).1 m s
+
+pub kind_ready : (p : Parts) (t : ℕ) (o : Option Kind) (b : Bool) → IsNext p t o → b ≡ is_some o → IsReady p t b
+unfolding IsReady
+kind_ready p t o b e i m s = ap is_some (next_of p t o m e s) ∙ sym i
+
+pub ready_some : (p : Parts) (t : ℕ) (tasks : List ℕ) (b : Bool) → 0 < t → IsReady p t b → b ≡ true → ReadyBelow p t tasks → ReadyBelow p (t + 1) (tasks ++ t ∷ [])
+unfolding IsReady
+ready_some p t tasks b l e i r = record {
   ready_is = λ m s.
       ap (ready p.scenario m) (number_next t l) ∙ ready_append p.scenario m (numbers (t - 1)) t
-      ∙ ap (λ o. ready p.scenario m (numbers (t - 1)) ++ (if is_some o then t ∷ [] else [])) (next_of p t (Some kind) m e s)
+      ∙ ap (λ c. ready p.scenario m (numbers (t - 1)) ++ (if c then t ∷ [] else [])) (e m s ∙ i)
       ∙ ap (λ xs. xs ++ t ∷ []) (r.ready_is m s);
-  few = let a = r.few in let b : length (tasks ++ t ∷ []) ≡ length tasks + 1 = length_one tasks t in omega (arith, a, b);
+  few = let a = r.few in let d : length (tasks ++ t ∷ []) ≡ length tasks + 1 = length_one tasks t in omega (arith, a, d);
 }
 
-pub ready_less : (p : Parts) (t : ℕ) (tasks : List ℕ) → 0 < t → IsNext p t None → ReadyBelow p t tasks → ReadyBelow p (t + 1) tasks
-ready_less p t tasks l e r = record {
+pub ready_not : (p : Parts) (t : ℕ) (tasks : List ℕ) (b : Bool) → 0 < t → IsReady p t b → b ≡ false → ReadyBelow p t tasks → ReadyBelow p (t + 1) tasks
+unfolding IsReady
+ready_not p t tasks b l e i r = record {
   ready_is = λ m s.
       ap (ready p.scenario m) (number_next t l) ∙ ready_append p.scenario m (numbers (t - 1)) t
-      ∙ ap (λ o. ready p.scenario m (numbers (t - 1)) ++ (if is_some o then t ∷ [] else [])) (next_of p t None m e s)
+      ∙ ap (λ c. ready p.scenario m (numbers (t - 1)) ++ (if c then t ∷ [] else [])) (e m s ∙ i)
       ∙ append_none (ready p.scenario m (numbers (t - 1))) ∙ r.ready_is m s;
   few = let a = r.few in omega (arith, a);
 }
@@ -128,11 +141,3 @@ draws_at p seed next (t ∷ tasks) e a q = subst (λ n. IsDraw p seed (Some (get
 
 pub at_can : (p : Parts) (n : ℕ) (tasks : List ℕ) → Reached p → (length tasks == 0) ≡ false → AreReady p tasks → CanGo p (Some (get_or tasks (n % length tasks) 0))
 at_can p n tasks r e a = ready_can p tasks (n % length tasks) r a (mod-lt n (let l : 0 < length tasks = grind (arith, common_steps) in l))
-
-pub ready_some : (p : Parts) (t : ℕ) (tasks : List ℕ) (o : Option Kind) (b : Bool) → 0 < t → IsNext p t o → b ≡ is_some o → b ≡ true → ReadyBelow p t tasks → ReadyBelow p (t + 1) (tasks ++ t ∷ [])
-ready_some p t tasks None b l e i j r = absurd (cc)
-ready_some p t tasks (Some k) b l e i j r = ready_more p t tasks k l e r
-
-pub ready_not : (p : Parts) (t : ℕ) (tasks : List ℕ) (o : Option Kind) (b : Bool) → 0 < t → IsNext p t o → b ≡ is_some o → b ≡ false → ReadyBelow p t tasks → ReadyBelow p (t + 1) tasks
-ready_not p t tasks None b l e i j r = ready_less p t tasks l e r
-ready_not p t tasks (Some k) b l e i j r = absurd (cc)

@@ -1,11 +1,12 @@
 -- How the next move of a schedule is found and made.
-use Rattle.std.specs.Prelude.{◌≡◌, ◌<◌, ◌+◌, ◌-◌, ℕ, ◌==◌, true, Bool, List, [], ◌∷◌, ◌++◌, length, slice_index_or, Option, Some, None, IsSome}
+use Rattle.std.specs.Prelude.{◌≡◌, ◌<◌, ◌+◌, ◌-◌, ℕ, ◌==◌, true, Bool, List, [], ◌∷◌, ◌++◌, length, slice_index_or, Option, Some, None, IsSome, is_some}
 use Rattle.std.specs.List.{count_by, AllByRecursion}
 use Rattle.vch_model.specs.declared.call.Line.{Line}
 use Rattle.vch_model.specs.declared.lists.Scenario.{Scenario}
 use Rattle.vch_model.specs.Lines.{is_task, lines_until, phases_in}
 use Rattle.vch_machine.specs.State.{Machine}
 use Rattle.vch_machine.specs.Events.{numbers, ready}
+use Rattle.vch_machine.specs.Next.{next_kind}
 use Rattle.vch_machine.specs.Schedules.{happens, move_of, lowest_open, first_waiting, turn_task, picked, seed_after}
 use Rattle.vch_legal.specs.Facts.{times}
 use Rattle.vch_parts.specs.declared.parts.Parts.{Parts}
@@ -22,6 +23,10 @@ all_of sc = numbers (length sc.flags)
 -- whose turn it is, or none for the end of the phase, in every state that the parts stand for
 unfoldable pub IsTurn : Parts → Option ℕ → Type 0
 IsTurn p choice = (m : Machine) → Stands p m → turn_task p.scenario m (lowest_open m (all_of p.scenario)) ≡ choice
+
+-- whether a task has a next event, in every state that the parts stand for
+unfoldable pub IsReady : Parts → ℕ → Bool → Type 0
+IsReady p t b = (m : Machine) → Stands p m → is_some (next_kind p.scenario m t) ≡ b
 
 -- the tasks that have a next event, in every state that the parts stand for
 unfoldable pub AreReady : Parts → List ℕ → Type 0

@@ -1,7 +1,8 @@
-ghost use Rattle.std.specs.Prelude.{◌≡◌, ◌<◌, ◌≤◌, ◌++◌, ◌∷◌, [], length};
+ghost use Rattle.std.specs.Prelude.{◌≡◌, ◌<◌, ◌≤◌, ◌++◌, ◌∷◌, [], length, IsTrue};
 ghost use Rattle.vch_machine.specs.Schedules as schedules;
+ghost use Rattle.vch_model.specs.Lines.{is_task};
 ghost use Rattle.vch_runs.specs.Runs.{EndsBySeed};
-ghost use Rattle.vch_runs.specs.Turning.{AreReady, CanGo, Draws, IsDraw};
+ghost use Rattle.vch_runs.specs.Turning.{AreReady, CanGo, Draws, IsDraw, IsReady};
 
 use crate::ends::MOST_MOVES;
 use crate::turn::go;
@@ -17,6 +18,18 @@ fn next_seed(seed: u64) -> u64
         .wrapping_add(1442695040888963407)
 }
 
+/// Whether a task has a next event. A call under way has one, whatever its kind, so that its record isn't looked at.
+fn is_ready(core: &Core, task: u32) -> bool
+    requires task { IsTrue (is_task core.now.scenario task) }
+    ensures { IsReady core.now task result }
+{
+    core.know();
+    if core.has_frame(task) {
+        return true;
+    }
+    core.next_kind(task).is_some()
+}
+
 /// The tasks that have a next event, in rising order.
 fn ready_tasks(core: &Core) -> ArrayVec<u32, 64>
     ensures { AreReady core.now result.items }
@@ -24,7 +37,7 @@ fn ready_tasks(core: &Core) -> ArrayVec<u32, 64>
     core.know();
     let mut tasks = ArrayVec::new();
     for task in 1..core.scenario().flags.len() as u32 + 1 {
-        if core.next_kind(task).is_some() {
+        if is_ready(core, task) {
             tasks.push(task);
         }
     }

@@ -2,7 +2,7 @@ use Rattle.std.proofs.Common.{◌≡◌, ◌≤◌, ◌<◌, ◌+◌, arith, len
 use Rattle.vch_runs.proofs.Lowest.{few_tasks}
 use Rattle.vch_runs.proofs.Drawing.{ReadyBelow, ready_some, ready_not, are_ready}
 use Rattle.vch_runs.proofs.seed.ready_tasks.Goals as goal
-use Rattle.vch_runs.proofs.seed.ready_tasks.Goals.{then-is_some, else-is_some}
+use Rattle.vch_runs.proofs.seed.ready_tasks.Goals.{then-is_ready, else-is_ready}
 
 pub overflow_cast-task-end : goal.overflow_cast-task-end
 overflow_cast-task-end c =
@@ -24,11 +24,11 @@ push-requires c =
     (omega arith, few)
 
 pub loop-task-preserved : goal.loop-task-preserved
-loop-task-preserved c = elim c.if-is_some.branch [
-  | then-is_some w ↦ subst (ReadyBelow c.args.core.now (c.loop-task.task + 1)) (sym (ap (λ v. v.items) w.tasks-is ∙ w.push.ensures.items))
-      (ready_some c.args.core.now c.loop-task.task c.loop-task.tasks.items c.next_kind.result c.is_some.result c.loop-task.auto.task c.next_kind.ensures c.is_some.ensures w.if-is_some.true c.loop-task.invariant)
-  | else-is_some w ↦ subst (ReadyBelow c.args.core.now (c.loop-task.task + 1)) (sym (ap (λ v. v.items) w.tasks-is))
-      (ready_not c.args.core.now c.loop-task.task c.loop-task.tasks.items c.next_kind.result c.is_some.result c.loop-task.auto.task c.next_kind.ensures c.is_some.ensures w.if-is_some.false c.loop-task.invariant)
+loop-task-preserved c = elim c.if-is_ready.branch [
+  | then-is_ready w ↦ subst (ReadyBelow c.args.core.now (c.loop-task.task + 1)) (sym (ap (λ v. v.items) w.tasks-is ∙ w.push.ensures.items))
+      (ready_some c.args.core.now c.loop-task.task c.loop-task.tasks.items c.is_ready.result c.loop-task.auto.task c.is_ready.ensures w.if-is_ready.true c.loop-task.invariant)
+  | else-is_ready w ↦ subst (ReadyBelow c.args.core.now (c.loop-task.task + 1)) (sym (ap (λ v. v.items) w.tasks-is))
+      (ready_not c.args.core.now c.loop-task.task c.loop-task.tasks.items c.is_ready.result c.loop-task.auto.task c.is_ready.ensures w.if-is_ready.false c.loop-task.invariant)
 ]
 
 pub returns : goal.returns
