@@ -1,5 +1,6 @@
 pub mod Rests
 pub mod Growing
+pub mod Apart
 pub mod Framed
 pub mod Quiet
 pub mod Passing

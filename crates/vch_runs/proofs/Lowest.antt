@@ -1,7 +1,8 @@
 -- The lowest task with a frame.
-use Rattle.std.proofs.Common.{◌≡◌, ℕ, zero, suc, ◌+◌, ◌<◌, ◌≤◌, ◌==◌, Bool, true, false, List, [], ◌∷◌, ◌++◌, refl, arith, sym, ◌∙◌, length, subst, Some, None}
+use Rattle.std.proofs.Common.{◌≡◌, ℕ, zero, suc, ◌+◌, ◌<◌, ◌≤◌, ◌==◌, Bool, true, false, List, [], ◌∷◌, ◌++◌, refl, arith, sym, ◌∙◌, length, subst, Option, Some, None}
 use Rattle.std.specs.Prelude.{is_some, if◌then◌else◌}
 use Rattle.std.proofs.lemmas.Grind.{common_steps}
+use Rattle.vch_model.specs.Lines.{is_task}
 use Rattle.vch_machine.specs.State.{Machine, tasked}
 use Rattle.vch_machine.specs.Events.{numbers}
 use Rattle.vch_machine.specs.Schedules.{lowest_open}
@@ -10,12 +11,10 @@ use Rattle.vch_parts.specs.declared.parts.Parts.{Parts}
 use Rattle.vch_parts.specs.declared.frames.Working.{Working}
 use Rattle.vch_parts.specs.Framed.{frame_of}
 use Rattle.vch_parts.specs.Reached.{Reached, Stands}
-use Rattle.vch_runs.specs.Turning.{IsLowest}
-use Rattle.vch_runs.proofs.Framed.{reach, frame_same}
-
--- no task below this one has a frame
-pub record NoneBelow (frames : List Working) (t : ℕ) : Type 0 where
-  pub none : (u : ℕ) → 0 < u → u < t → is_some (frame_of frames u) ≡ false
+use Rattle.vch_runs.specs.Turning.{IsLowest, IsStart, NoneBelow, NoneBefore, IsTaskOrNone, start_after, CanGo, Goes}
+use Rattle.vch_runs.proofs.Framed.{Reach, reach, frame_same}
+use Rattle.vch_runs.proofs.Quiet.{number_within}
+use Rattle.vch_runs.proofs.Apart.{Apart, event_apart}
 
 pub none_at_start : (frames : List Working) → NoneBelow frames 1
 none_at_start frames = record { none = λ u a b. absurd (omega (arith, a, b)) }
@@ -82,3 +81,34 @@ lowest_found p t a b n e m s =
 pub lowest_none : (p : Parts) (k : ℕ) → length p.scenario.flags < k → NoneBelow p.frames k → IsLowest p None
 unfolding IsLowest
 lowest_none p k l n m s = none_open m (length p.scenario.flags) (λ u x y. machine_none p m u s x y (n.none u x (omega (arith, y, l))))
+
+-- Where the look for it starts.
+
+pub start_first : (p : Parts) → IsStart p 1
+start_first p = record { positive = omega arith; below = none_at_start p.frames }
+
+below_less : (frames : List Working) (t k : ℕ) → t ≤ k → NoneBelow frames k → NoneBelow frames t
+below_less frames t k l n = record { none = λ u a b. n.none u a (omega (arith, l, b)) }
+
+pub none_before : (p : Parts) (k : ℕ) → length p.scenario.flags < k → NoneBelow p.frames k → NoneBefore p None
+none_before p k l n = below_less p.frames (length p.scenario.flags + 1) k (omega (arith, l)) n
+
+pub waiting_before : (p : Parts) (choice : Option ℕ) → NoneBefore p None → IsTaskOrNone p choice → NoneBefore p choice
+waiting_before p None n o = n
+waiting_before p (Some t) n o = let b = (number_within p.scenario t o).1 in below_less p.frames t (length p.scenario.flags + 1) (omega (arith, b)) n
+
+none_after : (p q : Parts) (t : ℕ) → Reached p → t ≤ length p.scenario.flags → NoneBelow p.frames t → Goes (Some t) p q → NoneBelow q.frames t
+none_after p q t r few n f = record {
+  none = λ u a b.
+      let x : Reach p = reach p r in
+      let y = f.move x.m x.state in
+      let g : Apart t x.m y.0 = event_apart p.scenario f.want t x.m y.0 y.1 in
+      let task : is_task p.scenario u ≡ true = task_of p.scenario u a (omega (arith, b, few)) in
+      sym (frame_same q y.0 u y.2 (subst (λ sc. is_task sc u ≡ true) (sym f.scenario) task)) ∙ g.frames u (λ e. omega (arith, b, e)) ∙ frame_same p x.m u x.state task ∙ n.none u a b;
+}
+
+pub start_kept : (p q : Parts) (choice : Option ℕ) → Reached p → CanGo p choice → NoneBefore p choice → Goes choice p q → IsStart q (start_after choice)
+start_kept p q None r c n f = start_first q
+start_kept p q (Some t) r c n f =
+    let w = number_within p.scenario t c.0 in
+    record { positive = w.0; below = none_after p q t r w.1 n f }

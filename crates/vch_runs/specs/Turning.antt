@@ -1,5 +1,5 @@
 -- How the next move of a schedule is found and made.
-use Rattle.std.specs.Prelude.{◌≡◌, ◌<◌, ◌+◌, ◌-◌, ℕ, ◌==◌, true, Bool, List, [], ◌∷◌, ◌++◌, length, slice_index_or, Option, Some, None, IsSome, is_some}
+use Rattle.std.specs.Prelude.{◌≡◌, ◌<◌, ◌≤◌, ◌+◌, ◌-◌, ℕ, ◌==◌, true, false, Bool, List, [], ◌∷◌, ◌++◌, length, slice_index_or, Option, Some, None, IsSome, is_some}
 use Rattle.std.specs.List.{count_by, AllByRecursion}
 use Rattle.vch_model.specs.declared.call.Line.{Line}
 use Rattle.vch_model.specs.declared.lists.Scenario.{Scenario}
@@ -60,6 +60,25 @@ IsLowest p choice = (m : Machine) → Stands p m → lowest_open m (all_of p.sce
 abbrev pub OfFrame : Parts → Option ℕ → Type 0
 OfFrame p None = Unit {0}
 OfFrame p (Some t) = (is_task p.scenario t ≡ true) × IsSome (frame_of p.frames t)
+
+-- no task below this one has a frame
+pub record NoneBelow (frames : List Working) (t : ℕ) : Type 0 where
+  pub none : (u : ℕ) → 0 < u → u < t → is_some (frame_of frames u) ≡ false
+
+-- where the look for the lowest task with a frame may start
+pub record IsStart (p : Parts) (t : ℕ) : Type 0 where
+  pub positive : 1 ≤ t
+  pub below : NoneBelow p.frames t
+
+-- no task below the choice has a frame, and no task at all where there is none
+abbrev pub NoneBefore : Parts → Option ℕ → Type 0
+NoneBefore p None = NoneBelow p.frames (length p.scenario.flags + 1)
+NoneBefore p (Some t) = NoneBelow p.frames t
+
+-- where the look may start after a move
+abbrev pub start_after : Option ℕ → ℕ
+start_after None = 1
+start_after (Some t) = t
 
 -- a task of the scenario, or none
 abbrev pub IsTaskOrNone : Parts → Option ℕ → Type 0

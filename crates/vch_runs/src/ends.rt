@@ -10,16 +10,17 @@ pub const MOST_MOVES: u64 = 1099511627776;
 /// Runs a core to the end, in turn: the lowest task that has a call under way goes on, else the task of the first line of
 /// the phase that was not begun, and where there is none the phase ends. Afterwards all phases have ended.
 ///
-/// It takes the time of the events, and for each of them time linear in the number of tasks.
+/// It takes the time of the events, and for each call and each phase time linear in the number of tasks.
 pub fn finish(core: &mut Core, alloc: Global)
     ensures { EndsInTurn core.old core.new }
 {
     core.know();
     let mut cursor = start_cursor(core);
+    let mut from = 1;
     for _move in 0..MOST_MOVES {
         if core.ended() {
             return;
         }
-        turn(core, alloc, &mut cursor);
+        turn(core, alloc, &mut cursor, &mut from);
     }
 }

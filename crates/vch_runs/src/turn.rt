@@ -1,7 +1,8 @@
 ghost use Rattle.std.specs.Prelude.{◌≡◌, ◌<◌, ◌≤◌, ◌+◌, ◌-◌, ◌^◌, ◌∷◌, [], ℕ, length, replicate, slice_index_or, Some, None, IsTrue, true};
 ghost use Rattle.vch_model.specs.Lines.{is_task, lines_until};
 ghost use Rattle.vch_parts.specs.Reached.{Reached};
-ghost use Rattle.vch_runs.specs.Turning.{IsTurn, IsCursor, IsPassed, CanGo, Goes, Turns, rewound, IsLowest, OfFrame, IsTaskOrNone, IsWaiting, AreOfTasks, lines_of_task};
+ghost use Rattle.vch_runs.specs.Turning.{IsTurn, IsCursor, IsPassed, CanGo, Goes, Turns, rewound, IsLowest, OfFrame, IsTaskOrNone, IsWaiting, IsStart, NoneBefore, AreOfTasks, lines_of_task};
+ghost use Rattle.vch_runs.specs.Turning as turning;
 
 use crate::events::event;
 use std::alloc::Global;
@@ -50,13 +51,15 @@ pub fn start_cursor(core: &Core) -> Cursor
     cursor
 }
 
-/// The lowest task that has a frame.
-pub fn lowest_frame(core: &Core) -> Option<u32>
+/// The lowest task that has a frame, where none below `from` has one.
+pub fn lowest_frame(core: &Core, from: u32) -> Option<u32>
+    requires from { IsStart core.now from }
     ensures lowest { IsLowest core.now result }
     ensures can { OfFrame core.now result }
+    ensures before { NoneBefore core.now result }
 {
     core.know();
-    for task in 1..core.scenario().flags.len() as u32 + 1 {
+    for task in from..core.scenario().flags.len() as u32 + 1 {
         if core.has_frame(task) {
             return Some(task);
         }
@@ -89,16 +92,18 @@ fn next_line(core: &Core, cursor: &mut Cursor) -> Option<u32>
 
 /// The task whose turn it is, or none where the phase ends: the lowest one with a frame, else that of the first line that
 /// was not begun.
-fn next_turn(core: &Core, cursor: &mut Cursor) -> Option<u32>
+fn next_turn(core: &Core, cursor: &mut Cursor, from: u32) -> Option<u32>
     requires more { core.now.phase < length core.now.scenario.phases }
     requires cursor { IsCursor core.now cursor.old }
+    requires from { IsStart core.now from }
     ensures turn { IsTurn core.now result }
     ensures can { CanGo core.now result }
+    ensures before { NoneBefore core.now result }
     ensures cursor { IsCursor core.now cursor.new }
     ensures passed { IsPassed core.now result cursor.new }
 {
     core.know();
-    match lowest_frame(core) {
+    match lowest_frame(core, from) {
         Some(task) => Some(task),
         None => next_line(core, cursor),
     }
@@ -129,15 +134,29 @@ fn rewind(cursor: &mut Cursor, choice: Option<u32>)
     }
 }
 
-/// One move in turn.
-pub fn turn(core: &mut Core, alloc: Global, cursor: &mut Cursor)
+/// Where the look for the lowest task with a frame starts after a move: at the task that went.
+fn start_after(choice: Option<u32>) -> u32
+    ensures { result ≡ turning.start_after choice }
+{
+    match choice {
+        Some(task) => task,
+        None => 1,
+    }
+}
+
+/// One move in turn. The look for the lowest task with a frame starts at `from`, which is the task that went last: so a task
+/// whose call is under way goes on without a look at the others.
+pub fn turn(core: &mut Core, alloc: Global, cursor: &mut Cursor, from: &mut u32)
     requires more { core.old.phase < length core.old.scenario.phases }
     requires cursor { IsCursor core.old cursor.old }
+    requires from { IsStart core.old from.old }
     ensures turn { Turns core.old core.new }
     ensures cursor { IsCursor core.new cursor.new }
+    ensures from { IsStart core.new from.new }
 {
     core.know();
-    let choice = next_turn(core, cursor);
+    let choice = next_turn(core, cursor, *from);
     go(core, alloc, choice);
     rewind(cursor, choice);
+    *from = start_after(choice);
 }

@@ -16,10 +16,13 @@ turn-requires-clause-more c = not_ended (length c.loop-move.core.scenario.phases
 pub turn-requires-clause-cursor : goal.turn-requires-clause-cursor
 turn-requires-clause-cursor c = c.loop-move.invariant.cursor_is
 
+pub turn-requires-clause-from : goal.turn-requires-clause-from
+turn-requires-clause-from c = c.loop-move.invariant.from_is
+
 pub loop-move-preserved : goal.loop-move-preserved
 loop-move-preserved c =
-    finishing_more c.args.core.now c.loop-move.core c.turn.new.core c.loop-move.cursor c.turn.new.cursor c.loop-move._move
-    (not_ended (length c.loop-move.core.scenario.phases) c.loop-move.core.phase c.ended.result c.ended.ensures c.if-ended.false) c.loop-move.invariant c.turn.ensures.turn c.turn.ensures.cursor
+    finishing_more c.args.core.now c.loop-move.core c.turn.new.core c.loop-move.cursor c.turn.new.cursor c.loop-move.from c.turn.new.from c.loop-move._move
+    (not_ended (length c.loop-move.core.scenario.phases) c.loop-move.core.phase c.ended.result c.ended.ensures c.if-ended.false) c.loop-move.invariant c.turn.ensures.turn c.turn.ensures.cursor c.turn.ensures.from
 
 pub returns : goal.returns
 returns c = absurd (never_spent c.loop-move.core c.loop-move._move c.loop-move-test.false c.loop-move.invariant.spares)

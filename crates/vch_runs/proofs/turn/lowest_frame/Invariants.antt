@@ -1,4 +1,4 @@
-use Rattle.vch_runs.proofs.Lowest.{NoneBelow}
+use Rattle.vch_runs.specs.Turning.{NoneBelow}
 use Rattle.vch_runs.proofs.turn.lowest_frame.Given as goal
 
 abbrev pub invariant-loop-task : goal.invariant-loop-task

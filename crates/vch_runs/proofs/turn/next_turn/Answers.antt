@@ -1,4 +1,5 @@
 use Rattle.vch_runs.proofs.Turned.{lowest_turn, frame_can, waiting_turn, waiting_can}
+use Rattle.vch_runs.proofs.Lowest.{waiting_before}
 use Rattle.vch_runs.proofs.turn.next_turn.Goals as goal
 
 pub returns-in-Some-clause-turn : goal.returns-in-Some-clause-turn
@@ -13,3 +14,6 @@ returns-in-None-clause-turn c = waiting_turn c.args.core.now c.next_line.result 
 pub returns-in-None-clause-can : goal.returns-in-None-clause-can
 returns-in-None-clause-can c =
     waiting_can c.args.core.now c.next_line.result c.know.ensures c.requires.more c.in-None.ensures.lowest c.next_line.ensures.waiting c.next_line.ensures.task
+
+pub returns-in-None-clause-before : goal.returns-in-None-clause-before
+returns-in-None-clause-before c = waiting_before c.args.core.now c.next_line.result c.in-None.ensures.before c.next_line.ensures.task
