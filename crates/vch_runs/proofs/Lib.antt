@@ -13,5 +13,6 @@ pub mod Advancing
 pub mod Ending
 pub mod Finishing
 pub mod Drawing
+pub mod Keeping
 pub mod Driving
 pub mod Calling

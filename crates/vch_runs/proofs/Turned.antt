@@ -20,7 +20,7 @@ use Rattle.vch_runs.specs.Turning.{all_of, IsTurn, IsLowest, IsWaiting, IsTaskOr
 use Rattle.vch_runs.proofs.Framed.{Reach, reach, frame_same, is_there}
 
 -- all states that the parts stand for have the same next event of a task
-same_next : (p : Parts) (t : ℕ) (m n : Machine) → is_task p.scenario t ≡ true → Stands p m → Stands p n → next_kind p.scenario n t ≡ next_kind p.scenario m t
+pub same_next : (p : Parts) (t : ℕ) (m n : Machine) → is_task p.scenario t ≡ true → Stands p m → Stands p n → next_kind p.scenario n t ≡ next_kind p.scenario m t
 same_next p t m n task a b = sym (next_agrees p t n task b) ∙ next_agrees p t m task a
 
 pub for_all : (p : Parts) (t : ℕ) (m : Machine) → is_task p.scenario t ≡ true → Stands p m → is_some (next_kind p.scenario m t) ≡ true → HasNext p t

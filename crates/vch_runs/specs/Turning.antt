@@ -46,6 +46,11 @@ abbrev pub CanGo : Parts → Option ℕ → Type 0
 CanGo p None = (p.phase < length p.scenario.phases) × IsResting p
 CanGo p (Some t) = (is_task p.scenario t ≡ true) × HasNext p t
 
+-- whether the task of the choice has a next event; not where there is none
+abbrev pub StillReady : Parts → Option ℕ → Bool → Type 0
+StillReady p None b = b ≡ false
+StillReady p (Some t) b = IsReady p t b
+
 -- the move that was chosen was made, with memory out or not
 pub record Goes (choice : Option ℕ) (old new : Parts) : Type 0 where
   pub scenario : new.scenario ≡ old.scenario
