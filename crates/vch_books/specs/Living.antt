@@ -1,5 +1,5 @@
 -- Live values by their numbers, and the index that finds one by its content.
-use Rattle.std.specs.Prelude.{◌≡◌, ◌<◌, ℕ, Bool, true, false, nat_eq, if◌then◌else◌, List, [], ◌∷◌, Option, Some, None}
+use Rattle.std.specs.Prelude.{◌≡◌, ◌<◌, ℕ, Bool, true, false, ◌==◌, nat_eq, if◌then◌else◌, List, [], ◌∷◌, ◌++◌, Option, Some, None}
 use Rattle.std.specs.Hash as fed
 use Rattle.std.specs.List.{AllByRecursion, flat_map}
 use Rattle.std.specs.Cmp.Lexicographic.{pointwise}
@@ -34,6 +34,16 @@ same_content a b = pointwise nat_eq (code a) (code b)
 -- what is hashed of numbers
 abbrev pub fed_words : List ℕ → List (List ℕ)
 fed_words words = flat_map fed.u32 words
+
+-- what is hashed of a value in numbers: its kind, and what it holds, where the bytes of user data are one piece
+abbrev pub fed_value : List ℕ → List (List ℕ)
+fed_value [] = []
+fed_value (kind ∷ words) = fed_words (kind ∷ []) ++ (if kind == 0 then words ∷ [] else fed_words words)
+
+-- what is hashed of a content in numbers: its key, and its value
+abbrev pub fed_code : List ℕ → List (List ℕ)
+fed_code [] = []
+fed_code (key ∷ words) = fed_words (key ∷ []) ++ fed_value words
 
 -- the content of the Made entry with a number
 abbrev pub content_of : List Entry → ℕ → Content

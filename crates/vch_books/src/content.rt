@@ -1,5 +1,5 @@
 ghost use Rattle.std.specs.Prelude.{◌≡◌, fold};
-ghost use Rattle.vch_books.specs.Living.{fed_words, words_of};
+ghost use Rattle.vch_books.specs.Living.{fed_value, fed_words, words_of};
 
 use std::hash::{Hash, Hasher};
 use std::marker::Model;
@@ -46,11 +46,11 @@ impl<'a> Hash for Content<'a> {
     ghost use Rattle.std.proofs.Common.{ap, refl};
     ghost use Rattle.std.proofs.lemmas.Bool.Decides.{Decides-eqb};
     ghost use Rattle.std.proofs.lemmas.Slice.Eq.{slice_eq-Decides};
-    ghost use Rattle.vch_books.specs.Living.{code, fed_words, same_content};
+    ghost use Rattle.vch_books.specs.Living.{code, fed_code, same_content};
 
-    ghost hash_input = { λ c. fed_words (code c) };
+    ghost hash_input = { λ c. fed_code (code c) };
 
-    ghost respects_eq = { λ a b e. ap fed_words ((slice_eq-Decides Decides-eqb (code a) (code b) (same_content a b) refl).0 e) };
+    ghost respects_eq = { λ a b e. ap fed_code ((slice_eq-Decides Decides-eqb (code a) (code b) (same_content a b) refl).0 e) };
 
     fn hash<H: Hasher>(&self, state: &mut H) {
         self.key.hash(state);
@@ -60,12 +60,12 @@ impl<'a> Hash for Content<'a> {
 
 /// Hashes a value.
 fn feed<H: Hasher>(value: &Value, state: &mut H)
-    ensures { state.new ≡ fold H.write state.old (fed_words (words_of value.now)) }
+    ensures { state.new ≡ fold H.write state.old (fed_value (words_of value.now)) }
 {
     match value {
         Value::User { bytes } => {
             0_u32.hash(state);
-            feed_bytes(bytes.as_slice(), state);
+            state.write(bytes.as_slice());
         }
         Value::Chain { list } => {
             1_u32.hash(state);
@@ -81,15 +81,6 @@ fn feed<H: Hasher>(value: &Value, state: &mut H)
             holder.hash(state);
             merchant.hash(state);
         }
-    }
-}
-
-/// Hashes bytes.
-fn feed_bytes<H: Hasher>(bytes: &[u8], state: &mut H)
-    ensures { state.new ≡ fold H.write state.old (fed_words bytes.now) }
-{
-    for byte in bytes {
-        u32::from(*byte).hash(state);
     }
 }
 
