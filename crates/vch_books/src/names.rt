@@ -10,6 +10,7 @@ use crate::Numbers;
 use crate::rows::Named;
 use indexmap::IndexMap;
 use std::alloc::Global;
+use std::collections::VecDeque;
 use std::marker::Model;
 use vch_base::NoMemory;
 
@@ -24,10 +25,11 @@ pub fn after(n: u64) -> Result<u64, NoMemory>
 }
 
 /// The voucher of a name, or nothing where the name is not there.
-fn voucher_of(names: &[Named], name: u32) -> Option<Numbers>
-    ensures { result ≡ numbers_at names.now name }
+fn voucher_of(names: &VecDeque<Named>, name: u32) -> Option<Numbers>
+    ensures { result ≡ numbers_at names.now.items name }
 {
-    for named in names {
+    for i in 0..names.len() {
+        let named = &names[i];
         if named.name == name {
             return Some(named.voucher);
         }
@@ -46,8 +48,8 @@ fn lower(name: u32, other: Option<u32>) -> u32
 }
 
 /// The lowest name, or nothing where there is none.
-fn lowest(names: &[Named]) -> Option<u32>
-    ensures { result ≡ desks.lowest names.now }
+fn lowest(names: &VecDeque<Named>) -> Option<u32>
+    ensures { result ≡ desks.lowest names.now.items }
 {
     let mut low = None;
     let mut at = names.len();
@@ -59,7 +61,7 @@ fn lowest(names: &[Named]) -> Option<u32>
 }
 
 /// One more reference to a name.
-fn one_more(names: &mut Vec<Named>, name: u32) -> Result<(), NoMemory>
+fn one_more(names: &mut VecDeque<Named>, name: u32) -> Result<(), NoMemory>
     ensures more { OnOk result (names.new.items ≡ desks.one_more names.old.items name) }
     ensures kept { OnErr result (names.new.items ≡ names.old.items) }
 {
@@ -74,7 +76,7 @@ fn one_more(names: &mut Vec<Named>, name: u32) -> Result<(), NoMemory>
 }
 
 /// One reference less to the name at a place, which is gone with the last. Returns the voucher of a name that went.
-fn lessen(names: &mut Vec<Named>, i: usize) -> Option<Numbers>
+fn lessen(names: &mut VecDeque<Named>, i: usize) -> Option<Numbers>
     requires { i < length names.old.items }
     ensures { IsLess names.old.items i names.new.items result }
 {
@@ -82,11 +84,11 @@ fn lessen(names: &mut Vec<Named>, i: usize) -> Option<Numbers>
         names[i].refs -= 1;
         return None;
     }
-    Some(names.remove(i).voucher)
+    Some(names.remove(i).unwrap().voucher)
 }
 
 /// One reference less to a name, which is gone with the last. Returns the voucher of a name that went.
-fn one_less(names: &mut Vec<Named>, name: u32) -> Option<Numbers>
+fn one_less(names: &mut VecDeque<Named>, name: u32) -> Option<Numbers>
     ensures less { names.new.items ≡ desks.one_less names.old.items name }
     ensures gone { result ≡ gone_with names.old.items name }
 {
@@ -99,13 +101,13 @@ fn one_less(names: &mut Vec<Named>, name: u32) -> Option<Numbers>
 }
 
 /// A name goes, where it is there. Returns its voucher.
-fn without(names: &mut Vec<Named>, name: u32) -> Option<Numbers>
+fn without(names: &mut VecDeque<Named>, name: u32) -> Option<Numbers>
     ensures less { names.new.items ≡ desks.without_name names.old.items name }
     ensures gone { result ≡ numbers_at names.old.items name }
 {
     for i in 0..names.len() {
         if names[i].name == name {
-            return Some(names.remove(i).voucher);
+            return Some(names.remove(i).unwrap().voucher);
         }
     }
     None
@@ -120,10 +122,11 @@ fn forget(index: &mut IndexMap<Numbers, u32>, gone: Option<Numbers>)
     }
 }
 
-/// The names of a task in the order in which they were given, and an index that finds the name of a voucher.
+/// The names of a task in the order in which they were given, and an index that finds the name of a voucher. The names are a ring,
+/// since tasks drop old names first.
 #[derive(Drop)]
 pub struct Names {
-    rows: Vec<Named>,
+    rows: VecDeque<Named>,
     index: IndexMap<Numbers, u32>,
 }
 
@@ -145,7 +148,7 @@ impl Names {
         ensures { result ≡ [] }
     {
         Names {
-            rows: Vec::new(alloc),
+            rows: VecDeque::new(alloc),
             index: IndexMap::new(alloc),
         }
     }
@@ -161,7 +164,7 @@ impl Names {
     pub fn voucher_of(&self, name: u32) -> Option<Numbers>
         ensures { result ≡ numbers_at self.now name }
     {
-        voucher_of(self.rows.as_slice(), name)
+        voucher_of(&self.rows, name)
     }
 
     /// The name of a voucher, or nothing where no name has it. Expected constant time.
@@ -175,7 +178,7 @@ impl Names {
     pub fn lowest(&self) -> Option<u32>
         ensures { result ≡ desks.lowest self.now }
     {
-        lowest(self.rows.as_slice())
+        lowest(&self.rows)
     }
 
     /// One more reference to a name.
@@ -192,7 +195,7 @@ impl Names {
         ensures { OnOk result (self.new ≡ self.old ++ named ∷ []) }
     {
         self.index.reserve(1)?;
-        self.rows.push(named)?;
+        self.rows.push_back(named)?;
         self.index.insert(named.voucher, named.name).unwrap();
         Ok(())
     }

@@ -4,8 +4,8 @@ use Rattle.vch_books.proofs.names.lowest.Given as goal
 
 abbrev pub invariant-loop-at : goal.invariant-loop-at
 invariant-loop-at l = record {
-  inside : l.at ≤ length l.names;
-  low : l.low ≡ desks.lowest (drop l.at l.names);
+  inside : l.at ≤ length l.names.items;
+  low : l.low ≡ desks.lowest (drop l.at l.names.items);
 }
 
 abbrev pub decreases-loop-at : goal.decreases-loop-at

@@ -7,7 +7,7 @@ use Rattle.vch_books.proofs.names.one_less.Goals as goal
 
 pub returns-then-index-name : goal.returns-then-index-name
 returns-then-index-name c =
-    let inside : c.loop-i.i < length c.loop-i.names.items = omega arith in
+    let inside : c.loop-i.i < length c.loop-i.names.items = omega (arith, ap length c.loop-i.invariant.same) in
     let n : Named = c.lessen.ensures.0 in
     let is : n ≡ get_or c.loop-i.names.items c.loop-i.i n = c.lessen.ensures.1 in
     let same : n ≡ c.index.result.now = grind (arith, common_steps) in

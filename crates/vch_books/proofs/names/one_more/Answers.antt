@@ -7,7 +7,7 @@ use Rattle.vch_books.proofs.names.one_more.Goals as goal
 
 pub returns-then-index-name : goal.returns-then-index-name
 returns-then-index-name c =
-    let inside : c.loop-i.i < length c.loop-i.names.items = omega arith in
+    let inside : c.loop-i.i < length c.loop-i.names.items = omega (arith, ap length c.loop-i.invariant.same) in
     let same : c.index_mut.result.now ≡ c.index.result.now = grind (arith, common_steps) in
     let counted : c.in_ok-refs.refs ≡ c.index_mut.result.now.refs + 1 = grind (arith, common_steps) in
     record {

@@ -12,5 +12,5 @@ invariant_of-self-2 c =
     let n : Named = c.args.named in
     let none : name_with s.rows.items n.voucher ≡ None = subst (λ (l : List Named). name_with l n.voucher ≡ None) (sym c.self.view_is) c.requires in
     let u = rw c.unwrap.ensures at c.insert.ensures.updates in
-    named_end s.index c.insert.new.self s.rows.items c.push.new.self.items n c.self.invariant none c.in_ok-push.ensures.items
+    named_end s.index c.insert.new.self s.rows.items c.push_back.new.self.items n c.self.invariant none c.in_ok-push_back.ensures.items
     (λ q. u.0 q ∙ ap (λ (es : List (Numbers × ℕ)). cond (same_numbers n.voucher q) (Some n.name) (lookup (same_numbers q) es)) c.in_ok-reserve.ensures.entries)
