@@ -12,17 +12,17 @@ use std::alloc::Global;
 use vch_model::{Entry, History, Total, TotalList, Word};
 use vch_text::next_line;
 
-/// What was read, with the line of the next task.
-fn with_total(mut draft: Draft, task: u32, total: Total) -> Result<Draft, Stop>
-    requires { length draft.totals < 4294967295 }
-    ensures { reading.Gives reading.kept result (reading.with_total (reading.kept draft) task total) }
+/// Adds the line of the next task to what was read.
+fn with_total(draft: &mut Draft, task: u32, total: Total) -> Result<(), Stop>
+    requires { length draft.old.totals < 4294967295 }
+    ensures { reading.Gives (λ done. reading.kept draft.new) result (reading.with_total (reading.kept draft.old) task total) }
 {
     if task as usize != draft.totals.len() + 1 {
         return Err(Stop::Fault);
     }
     draft.totals.push(total)?;
     draft.place = Place::Totals;
-    Ok(draft)
+    Ok(())
 }
 
 /// Whether an entry is of version 2 alone: an exit, what it gives up, and a value at the key of tests.
@@ -39,51 +39,51 @@ fn is_later(entry: &Entry) -> bool
     }
 }
 
-/// What was read, with one entry more, where that is one of the version.
-fn with_entry(mut draft: Draft, entry: Entry) -> Result<Draft, Stop>
-    ensures { reading.Gives reading.kept result (reading.with_entry (reading.kept draft) entry) }
+/// Adds an entry to what was read, where that is one of the version.
+fn with_entry(draft: &mut Draft, entry: Entry) -> Result<(), Stop>
+    ensures { reading.Gives (λ done. reading.kept draft.new) result (reading.with_entry (reading.kept draft.old) entry) }
 {
     if draft.version != 2 && is_later(&entry) {
         return Err(Stop::Fault);
     }
     draft.history.reserve(1)?;
     draft.history.push(entry);
-    Ok(draft)
+    Ok(())
 }
 
-/// What was read with one item more, where that may stand at this place.
-fn with_item(draft: Draft, item: Item) -> Result<Draft, Stop>
-    requires { length draft.totals < 4294967295 }
-    ensures { reading.Gives reading.kept result (reading.with_item draft.place (reading.kept draft) item) }
+/// Adds an item to what was read, where that may stand at this place.
+fn with_item(draft: &mut Draft, item: Item) -> Result<(), Stop>
+    requires { length draft.old.totals < 4294967295 }
+    ensures { reading.Gives (λ done. reading.kept draft.new) result (reading.with_item draft.old.place (reading.kept draft.old) item) }
 {
     match (draft.place, item) {
-        (Place::Title, Item::Title { version }) => Ok(Draft {
-            place: Place::Entries,
-            version,
-            ..draft
-        }),
+        (Place::Title, Item::Title { version }) => {
+            draft.place = Place::Entries;
+            draft.version = version;
+            Ok(())
+        }
         (Place::Entries, Item::Step { entry }) => with_entry(draft, entry),
         (Place::Entries, Item::Task { task, total }) => with_total(draft, task, total),
         (Place::Totals, Item::Task { task, total }) => with_total(draft, task, total),
-        (Place::Totals, Item::Counts { vouchers, values }) => Ok(Draft {
-            place: Place::End,
-            vouchers,
-            values,
-            ..draft
-        }),
-        (Place::End, Item::End) => Ok(Draft {
-            place: Place::Done,
-            ..draft
-        }),
+        (Place::Totals, Item::Counts { vouchers, values }) => {
+            draft.place = Place::End;
+            draft.vouchers = vouchers;
+            draft.values = values;
+            Ok(())
+        }
+        (Place::End, Item::End) => {
+            draft.place = Place::Done;
+            Ok(())
+        }
         _ => Err(Stop::Fault),
     }
 }
 
-/// What the next line makes of what was read.
+/// Adds the next line to what was read, in place. After an error what was read is of no more use.
 #[tactic(auto, unfolding(crate::specs::Reading::step_of))]
-fn step(alloc: Global, draft: Draft, line: &[u8]) -> Result<Draft, Stop>
-    requires { length draft.totals < 4294967295 }
-    ensures { reading.Gives reading.kept result (reading.step_of (reading.kept draft) line.now) }
+fn step(alloc: Global, draft: &mut Draft, line: &[u8]) -> Result<(), Stop>
+    requires { length draft.old.totals < 4294967295 }
+    ensures { reading.Gives (λ done. reading.kept draft.new) result (reading.step_of (reading.kept draft.old) line.now) }
 {
     let item = item(alloc, line)?;
     with_item(draft, item)
@@ -143,10 +143,10 @@ fn read_lines(alloc: Global, bytes: &[u8]) -> Result<Report, ReportFault>
     let mut rest = bytes;
     let mut number = 1;
     while let Some((line, more)) = next_line(rest) {
-        draft = match step(alloc, draft, line) {
-            Ok(draft) => draft,
+        match step(alloc, &mut draft, line) {
+            Ok(()) => {}
             Err(stop) => return Err(at_line(number, stop)),
-        };
+        }
         rest = more;
         number += 1;
     }

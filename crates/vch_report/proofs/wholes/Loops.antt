@@ -11,7 +11,6 @@ use Rattle.vch_report.specs.WellFormed.{Making}
 use Rattle.vch_model.specs.Text.{newline, entry_line, total_line, total_lines, last_lines, report_text}
 use Rattle.vch_model.specs.TextLines.{split_of, with_line_before}
 use Rattle.vch_text.specs.Reading.{◌>>=◌}
-use Rattle.vch_report.specs.declared.draft.Draft.{Draft}
 use Rattle.vch_report.specs.declared.draft.Place.{Place}
 use Rattle.vch_report.specs.declared.draft.Place.TheVariants as places
 use Rattle.vch_report.specs.declared.item.Item.{Item}
@@ -24,18 +23,18 @@ use Rattle.vch_report.specs.declared.fault.Stop.TheVariants as stops
 use Rattle.vch_report.specs.Lines.{item_of}
 use Rattle.vch_report.specs.Items.{text_of}
 use Rattle.vch_report.specs.Faults.{IsReport, IsRead, IsFault, IsRefused, IsFaultOf}
-use Rattle.vch_report.specs.Reading.{Read, kept, whole, is_of, with_item, step_of, finish, read_text, read_of, Gives, Reads, fault_at}
+use Rattle.vch_report.specs.Reading.{Read, whole, is_of, with_item, step_of, finish, read_text, read_of, Gives, Reads, fault_at}
 use Rattle.vch_report.proofs.words.ChainWords.{chain_text}
 use Rattle.vch_report.proofs.wholes.Same.{found, found_at, right_is, wrong_is}
 use Rattle.vch_report.proofs.wholes.Wholes.{goes_on, lines_more, lines_none, read_again, read_report, read_fault, fault_again, whole_same}
 
 -- ---- lines
 
-pub fault_read : (n : ℕ) (d : Read) (l : List ℕ) (p : List (List ℕ) × List ℕ) (stop : Stop) (r : Result Read ℕ)
-    → Gives {X = Draft} {Y = Read} kept (Err stop) (step_of d l) → read_text n d (with_line_before l p) ≡ r
+pub fault_read : (n : ℕ) (d : Read) (view : Unit {0} → Read) (l : List ℕ) (p : List (List ℕ) × List ℕ) (stop : Stop) (r : Result Read ℕ)
+    → Gives {X = Unit {0}} {Y = Read} view (Err stop) (step_of d l) → read_text n d (with_line_before l p) ≡ r
     → Reads (Err (fault_at n stop)) r
-fault_read n d l p (stops.Memory cause) r s e = tt
-fault_read n d l p stops.Fault r s e = sym e ∙ lines_more n d l p.0 p.1 ∙ ap (goes_on n p.0 p.1) s
+fault_read n d view l p (stops.Memory cause) r s e = tt
+fault_read n d view l p stops.Fault r s e = sym e ∙ lines_more n d l p.0 p.1 ∙ ap (goes_on n p.0 p.1) s
 
 pub line_read : (n : ℕ) (d e : Read) (l : List ℕ) (p : List (List ℕ) × List ℕ) (r : Result Read ℕ)
     → step_of d l ≡ Some e → read_text n d (with_line_before l p) ≡ r → read_text (n + 1) e p ≡ r

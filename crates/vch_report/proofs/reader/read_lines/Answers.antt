@@ -17,13 +17,13 @@ returns-in-Err c =
     let d = reading.kept c.loop-line.draft in
     let same = ap (reading.read_text c.loop-line.number d) (sym c.in-Some.ensures.found) ∙ c.loop-line.invariant.same in
     stopped_by _ c.at_line.result _
-    (sym c.at_line.ensures) (fault_read c.loop-line.number d c.in-Some.line.now
+    (sym c.at_line.ensures) (fault_read c.loop-line.number d (λ done. reading.kept c.step.new.draft) c.in-Some.line.now
     (split_of c.in-Some.more.now) c.in-Err.stop _ c.in-Err.ensures same)
 
 pub loop-line-preserved : goal.loop-line-preserved
 loop-line-preserved c =
     let d = reading.kept c.loop-line.draft in
-    let e = reading.kept c.in-Ok.draft in
+    let e = reading.kept c.step.new.draft in
     let same = ap (reading.read_text c.loop-line.number d) (sym c.in-Some.ensures.found) ∙ c.loop-line.invariant.same in
     record {
       few = omega (arith, step_few d e c.in-Some.line.now c.in-Ok.ensures);
