@@ -19,35 +19,29 @@ use vch_text::{is_word, next_line};
 
 /// The first line.
 #[tactic(auto, unfolding(crate::specs::Whole::title_of))]
-fn title(draft: Draft, line: &[u8]) -> Result<Draft, Why>
-    ensures { Tells (λ d. d) result (whole.title_of draft line.now) }
+fn title(draft: &mut Draft, line: &[u8]) -> Result<(), Why>
+    ensures { Tells (λ done. draft.new) result (whole.title_of draft.old line.now) }
 {
-    let version = version_of(line)?;
-    Ok(Draft {
-        place: Place::Tasks,
-        version,
-        ..draft
-    })
+    draft.version = version_of(line)?;
+    draft.place = Place::Tasks;
+    Ok(())
 }
 
 /// The number of tasks.
 #[tactic(auto, unfolding(crate::specs::Whole::count_of))]
-fn count(draft: Draft, line: &[u8]) -> Result<Draft, Why>
-    ensures { Tells (λ d. d) result (whole.count_of draft line.now) }
+fn count(draft: &mut Draft, line: &[u8]) -> Result<(), Why>
+    ensures { Tells (λ done. draft.new) result (whole.count_of draft.old line.now) }
 {
-    let tasks = tasks_of(line)?;
-    Ok(Draft {
-        place: Place::Task,
-        tasks,
-        ..draft
-    })
+    draft.tasks = tasks_of(line)?;
+    draft.place = Place::Task;
+    Ok(())
 }
 
 /// The next task.
 #[tactic(auto, unfolding(crate::specs::Whole::task_in))]
-fn task(mut draft: Draft, line: &[u8]) -> Result<Draft, Stop>
-    requires { length draft.flags < MOST_TASKS }
-    ensures { Gives (λ d. d) result (whole.task_in draft line.now) }
+fn task(draft: &mut Draft, line: &[u8]) -> Result<(), Stop>
+    requires { length draft.old.flags < MOST_TASKS }
+    ensures { Gives (λ done. draft.new) result (whole.task_in draft.old line.now) }
 {
     let number = draft.flags.len() as u32 + 1;
     let task = task_of(draft.version, number, line)?;
@@ -58,26 +52,26 @@ fn task(mut draft: Draft, line: &[u8]) -> Result<Draft, Stop>
     } else {
         Place::Task
     };
-    Ok(draft)
+    Ok(())
 }
 
 /// The next phase.
 #[tactic(auto, unfolding(crate::specs::Whole::phase_in))]
-fn phase(alloc: Global, mut draft: Draft) -> Result<Draft, Stop>
-    ensures { Gives (λ d. d) result (whole.phase_in draft) }
+fn phase(alloc: Global, draft: &mut Draft) -> Result<(), Stop>
+    ensures { Gives (λ done. draft.new) result (whole.phase_in draft.old) }
 {
     if draft.phases.len() >= MOST_PHASES {
         return Err(Stop::Fault { why: Why::Limit });
     }
     draft.phases.push(LineList::new(alloc))?;
     draft.place = Place::Call;
-    Ok(draft)
+    Ok(())
 }
 
 /// The first phase.
 #[tactic(auto, unfolding(crate::specs::Whole::first_in))]
-fn first_phase(alloc: Global, draft: Draft, line: &[u8]) -> Result<Draft, Stop>
-    ensures { Gives (λ d. d) result (whole.first_in draft line.now) }
+fn first_phase(alloc: Global, draft: &mut Draft, line: &[u8]) -> Result<(), Stop>
+    ensures { Gives (λ done. draft.new) result (whole.first_in draft.old line.now) }
 {
     word_is(b"phase", line)?;
     phase(alloc, draft)
@@ -85,9 +79,9 @@ fn first_phase(alloc: Global, draft: Draft, line: &[u8]) -> Result<Draft, Stop>
 
 /// The next call.
 #[tactic(auto, unfolding(crate::specs::Whole::call_in))]
-fn call(alloc: Global, mut draft: Draft, line: &[u8]) -> Result<Draft, Stop>
-    requires { 1 ≤ length draft.phases }
-    ensures { Gives (λ d. d) result (whole.call_in draft line.now) }
+fn call(alloc: Global, draft: &mut Draft, line: &[u8]) -> Result<(), Stop>
+    requires { 1 ≤ length draft.old.phases }
+    ensures { Gives (λ done. draft.new) result (whole.call_in draft.old line.now) }
 {
     let line = line_of(alloc, draft.version, draft.tasks, line)?;
     if draft.calls >= MOST_CALLS {
@@ -95,23 +89,21 @@ fn call(alloc: Global, mut draft: Draft, line: &[u8]) -> Result<Draft, Stop>
     }
     draft.phases.add_line(line)?;
     draft.calls += 1;
-    Ok(draft)
+    Ok(())
 }
 
 /// A phase, the end or a call.
 #[tactic(auto, unfolding(crate::specs::Whole::next_in))]
-fn next(alloc: Global, draft: Draft, line: &[u8]) -> Result<Draft, Stop>
-    requires { 1 ≤ length draft.phases }
-    ensures { Gives (λ d. d) result (whole.next_in draft line.now) }
+fn next(alloc: Global, draft: &mut Draft, line: &[u8]) -> Result<(), Stop>
+    requires { 1 ≤ length draft.old.phases }
+    ensures { Gives (λ done. draft.new) result (whole.next_in draft.old line.now) }
 {
     if is_word(line, b"phase") {
         return phase(alloc, draft);
     }
     if is_word(line, b"end") {
-        return Ok(Draft {
-            place: Place::End,
-            ..draft
-        });
+        draft.place = Place::End;
+        return Ok(());
     }
     call(alloc, draft, line)
 }
@@ -136,17 +128,17 @@ fn is_end(place: Place) -> bool
     }
 }
 
-/// What the next line makes of what was read.
+/// Adds the next line to what was read, in place. After an error what was read is of no more use.
 #[tactic(auto, unfolding(crate::specs::Whole::step_of))]
-fn step(alloc: Global, draft: Draft, line: &[u8]) -> Result<Draft, Stop>
-    requires { whole.IsFitting draft }
-    ensures { Gives (λ d. d) result (whole.step_of draft line.now) }
+fn step(alloc: Global, draft: &mut Draft, line: &[u8]) -> Result<(), Stop>
+    requires { whole.IsFitting draft.old }
+    ensures { Gives (λ done. draft.new) result (whole.step_of draft.old line.now) }
 {
     if is_end(draft.place) {
         return Err(Stop::Fault { why: Why::Ending });
     }
     if is_passed(line) {
-        return Ok(draft);
+        return Ok(());
     }
     match draft.place {
         Place::Title => Ok(title(draft, line)?),
@@ -205,10 +197,10 @@ fn read_lines(alloc: Global, bytes: &[u8]) -> Result<Scenario, ScenarioFault>
     let mut rest = bytes;
     let mut number = 1;
     while let Some((line, more)) = next_line(rest) {
-        draft = match step(alloc, draft, line) {
-            Ok(draft) => draft,
+        match step(alloc, &mut draft, line) {
+            Ok(()) => {}
             Err(stop) => return Err(at_line(number, stop)),
-        };
+        }
         rest = more;
         number += 1;
     }

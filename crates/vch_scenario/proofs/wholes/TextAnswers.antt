@@ -1,5 +1,5 @@
 -- What is read of worked texts computes, and says that each is of its scenario or has its fault.
-use Rattle.std.proofs.Common.{◌≡◌, ℕ, List, [], ◌∷◌, map, Result, Ok, Err, refl}
+use Rattle.std.proofs.Common.{◌≡◌, List, [], ◌∷◌, map, Result, Err, refl}
 use Rattle.std.specs.List.{AllByRecursion}
 use Rattle.hex.specs.Hex.{decode_pairs}
 use Rattle.vch_model.specs.declared.lists.Scenario.{Scenario}

@@ -19,9 +19,9 @@ loop-line-preserved c =
     let found = c.in-Some.ensures.found in
     let same = ap (whole.read_text c.loop-line.number c.loop-line.draft) (sym found) ∙ c.loop-line.invariant.same in
     record {
-      fitting = step_fits c.loop-line.draft c.in-Some.line.now c.in-Ok.draft c.loop-line.invariant.fitting c.in-Ok.ensures;
+      fitting = step_fits c.loop-line.draft c.in-Some.line.now c.step.new.draft c.loop-line.invariant.fitting c.in-Ok.ensures;
       counted = omega (arith, c.in-Some.ensures.shorter);
-      same = line_read c.loop-line.number c.loop-line.draft c.in-Ok.draft c.in-Some.line.now (split_of c.in-Some.more.now) _ c.in-Ok.ensures same;
+      same = line_read c.loop-line.number c.loop-line.draft c.step.new.draft c.in-Some.line.now (split_of c.in-Some.more.now) _ c.in-Ok.ensures same;
     }
 
 pub returns : goal.returns
