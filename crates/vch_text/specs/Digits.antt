@@ -1,5 +1,5 @@
 -- The bytes that a word spells.
-use Rattle.std.specs.Prelude.{◌≡◌, ℕ, if◌then◌else◌, List, [], Option, Some, None, Result, Ok, Err, codes}
+use Rattle.std.specs.Prelude.{◌≡◌, ◌<◌, ◌≤◌, ℕ, Bool, true, false, if◌then◌else◌, List, [], Option, Some, None, Result, Ok, Err, codes}
 use Rattle.hex.specs.Hex.{decode_of}
 use Rattle.hex.specs.declared.error.FromHexError.{FromHexError}
 use Rattle.vch_text.specs.declared.digits.HexFault.{HexFault}
@@ -22,3 +22,13 @@ abbrev pub Decodes : Result (List ℕ) HexFault → Option (List ℕ) → Type 0
 Decodes (Ok bytes) read = read ≡ Some bytes
 Decodes (Err Malformed) read = read ≡ None
 Decodes (Err (NoMemory cause)) read = Unit {0}
+
+-- a number that tells a digit's value: the value, or above 15 where there is none
+abbrev pub IsDigitOf : ℕ → Option ℕ → Type 0
+IsDigitOf n (Some v) = (n ≡ v) × (n ≤ 15)
+IsDigitOf n None = 15 < n
+
+-- whether all was read, and the bytes that were
+abbrev pub Fills : Bool → List ℕ → Option (List ℕ) → Type 0
+Fills true bytes read = read ≡ Some bytes
+Fills false bytes read = read ≡ None

@@ -1,7 +1,7 @@
-ghost use Rattle.std.specs.Prelude.{◌≡◌, ℕ, List};
-ghost use Rattle.hex.specs.Hex.{decode_of};
+ghost use Rattle.std.specs.Prelude.{◌≡◌, ◌*◌, ℕ, List, length};
+ghost use Rattle.hex.specs.Hex.{decode_of, decode_pairs, hex_digit_value};
 ghost use Rattle.vch_text.specs.declared.digits.HexFault.TheVariants as faults;
-ghost use Rattle.vch_text.specs.Digits.{bytes_of, from_decoded, Decodes};
+ghost use Rattle.vch_text.specs.Digits.{bytes_of, from_decoded, Decodes, Fills, IsDigitOf};
 
 use crate::words::is_word;
 use std::alloc::Global;
@@ -23,7 +23,49 @@ impl From<NoMemory> for HexFault {
     }
 }
 
-/// The bytes of digits. They are decoded into room that is taken here, so that the want of it has the allocator's own error.
+/// The value of each hexadecimal digit, of either case, at its own place, and 255 at every other place.
+static DIGITS: [u8; 256] = *b"\
+    \xff\xff\xff\xff\xff\xff\xff\xff\xff\xff\xff\xff\xff\xff\xff\xff\
+    \xff\xff\xff\xff\xff\xff\xff\xff\xff\xff\xff\xff\xff\xff\xff\xff\
+    \xff\xff\xff\xff\xff\xff\xff\xff\xff\xff\xff\xff\xff\xff\xff\xff\
+    \x00\x01\x02\x03\x04\x05\x06\x07\x08\x09\xff\xff\xff\xff\xff\xff\
+    \xff\x0a\x0b\x0c\x0d\x0e\x0f\xff\xff\xff\xff\xff\xff\xff\xff\xff\
+    \xff\xff\xff\xff\xff\xff\xff\xff\xff\xff\xff\xff\xff\xff\xff\xff\
+    \xff\x0a\x0b\x0c\x0d\x0e\x0f\xff\xff\xff\xff\xff\xff\xff\xff\xff\
+    \xff\xff\xff\xff\xff\xff\xff\xff\xff\xff\xff\xff\xff\xff\xff\xff\
+    \xff\xff\xff\xff\xff\xff\xff\xff\xff\xff\xff\xff\xff\xff\xff\xff\
+    \xff\xff\xff\xff\xff\xff\xff\xff\xff\xff\xff\xff\xff\xff\xff\xff\
+    \xff\xff\xff\xff\xff\xff\xff\xff\xff\xff\xff\xff\xff\xff\xff\xff\
+    \xff\xff\xff\xff\xff\xff\xff\xff\xff\xff\xff\xff\xff\xff\xff\xff\
+    \xff\xff\xff\xff\xff\xff\xff\xff\xff\xff\xff\xff\xff\xff\xff\xff\
+    \xff\xff\xff\xff\xff\xff\xff\xff\xff\xff\xff\xff\xff\xff\xff\xff\
+    \xff\xff\xff\xff\xff\xff\xff\xff\xff\xff\xff\xff\xff\xff\xff\xff\
+    \xff\xff\xff\xff\xff\xff\xff\xff\xff\xff\xff\xff\xff\xff\xff\xff";
+
+/// The value of a hexadecimal digit of either case, or a number above 15 where it is none.
+fn digit(c: u8) -> u8
+    ensures { IsDigitOf result (hex_digit_value c) }
+{
+    DIGITS[c as usize]
+}
+
+/// Writes the bytes that pairs of digits spell, and tells whether all of them are digits.
+fn fill(digits: &[u8], bytes: &mut [u8]) -> bool
+    requires { length digits.now ≡ 2 * length bytes.old }
+    ensures { Fills result bytes.new (from_decoded (decode_pairs 0 digits.now)) }
+{
+    'pairs: for i in 0..bytes.len() {
+        let high = digit(digits[2 * i]);
+        let low = digit(digits[2 * i + 1]);
+        if high > 15 || low > 15 {
+            return false;
+        }
+        bytes[i] = high * 16 + low;
+    }
+    true
+}
+
+/// The bytes of digits. They are written into room that is taken here, so that the want of it has the allocator's own error.
 fn decoded(alloc: Global, digits: &[u8]) -> Result<Bytes, HexFault>
     ensures { Decodes result (from_decoded (decode_of digits.now)) }
 {
@@ -31,9 +73,10 @@ fn decoded(alloc: Global, digits: &[u8]) -> Result<Bytes, HexFault>
         return Err(HexFault::Malformed);
     }
     let mut bytes = vec![in alloc; 0u8; digits.len() / 2].map_err(NoMemory::from)?;
-    match hex::decode_to_slice(digits, bytes.as_mut_slice()) {
-        Ok(()) => Ok(Bytes::from_vec(bytes)),
-        Err(_) => Err(HexFault::Malformed),
+    if fill(digits, bytes.as_mut_slice()) {
+        Ok(Bytes::from_vec(bytes))
+    } else {
+        Err(HexFault::Malformed)
     }
 }
 

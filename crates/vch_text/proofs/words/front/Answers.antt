@@ -1,4 +1,4 @@
-use Rattle.std.proofs.Common.{◌∙◌, arith, take, drop, length, [], ◌≡◌, ◌≤◌}
+use Rattle.std.proofs.Common.{◌∙◌, arith, take, drop, length, [], ◌≡◌}
 use Rattle.std.proofs.lemmas.List.{take_all}
 use Rattle.std.proofs.lemmas.Grind.{common_steps}
 use Rattle.vch_text.proofs.Fronts.{front_here, front_end, fronts_to, parts_are}
