@@ -95,11 +95,15 @@ pub fn after<'a>(text: &[u8], rest: &'a [u8]) -> Option<&'a [u8]>
     }
 }
 
-/// Whether no letter is a capital.
+/// Whether no letter is a capital. It looks at every byte, so that several can be looked at in one step.
 fn is_lower(word: &[u8]) -> bool
     ensures { result ≡ numerals.is_lower word.now }
 {
-    word.iter().all(|byte| !byte.is_ascii_uppercase())
+    let mut lower = true;
+    for byte in word {
+        lower &= !byte.is_ascii_uppercase();
+    }
+    lower
 }
 
 /// The bytes that the one word left spells in lower-case hexadecimal digits.
