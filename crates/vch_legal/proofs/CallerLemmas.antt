@@ -27,7 +27,7 @@ pub use Rattle.vch_legal.proofs.lines.PhaseCounts.{lines_with_phase}
 pub use Rattle.vch_legal.proofs.lines.PhaseLines.{phase_of_line, all_lines, no_lines}
 pub use Rattle.vch_legal.proofs.spots.Places.{same_place_eq}
 pub use Rattle.vch_legal.proofs.spots.PutSpots.{handles_eq}
-pub use Rattle.vch_legal.proofs.forming.RecordPlaces.{record_place, record_long, record_inside, asks_behind, record_rest}
+pub use Rattle.vch_legal.proofs.forming.RecordPlaces.{record_place, record_long, record_inside, record_rest}
 pub use Rattle.vch_legal.proofs.forming.Records.{voucher_seen, seen_names, asks_same}
 pub use Rattle.vch_legal.proofs.steps.Refusals.{names_seen}
 pub use Rattle.vch_legal.proofs.reports.ReportBytes.{no_bytes, bytes_joined, word_bytes, spelling_bytes}

@@ -14,7 +14,6 @@ pub mod TextLines
 pub mod Grammar
 pub mod Scenarios
 pub mod Canonical
-pub mod UserOnly
 pub mod Examples
 pub mod Worked
 pub mod WorkedRefusals

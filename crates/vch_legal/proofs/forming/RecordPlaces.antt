@@ -1,10 +1,9 @@
 -- A record that a create is at: what the place behind it is, and what is behind it.
-use Rattle.std.proofs.Common.{◌≡◌, ℕ, ◌+◌, ◌-◌, ◌≤◌, ◌==◌, nat_lt, List, ◌∷◌, arith, sym, ap, ◌∙◌, length, take, drop, subst}
+use Rattle.std.proofs.Common.{◌≡◌, ℕ, ◌+◌, ◌-◌, ◌≤◌, ◌==◌, nat_lt, List, ◌∷◌, arith, ap, ◌∙◌, length, take, drop}
 use Rattle.std.proofs.lemmas.Grind.{common_steps}
 use Rattle.std.proofs.lemmas.List.{length-drop}
 use Rattle.vch_recipe.specs.Recipes.{One, End, HeaderCut, ContentCut, first_of, content_of, word_at}
 use Rattle.vch_recipe.specs.declared.recipe.Recipe.{Recipe}
-use Rattle.vch_model.specs.UserOnly.{AsksUserOnly}
 use Rattle.vch_legal.proofs.forming.Creates.{behind}
 use Rattle.vch_legal.proofs.facts.Choices.{cases_bool}
 use Rattle.vch_legal.proofs.forming.Forming.{rest_of}
@@ -72,12 +71,6 @@ record_inside bytes at r rest e =
     let a : 16 ≤ length (drop at bytes) = one_long (drop at bytes) r rest e in
     let b : length (drop at bytes) ≡ length bytes - at = length-drop at bytes in
     omega (arith, a, b)
-
--- behind it, only user data's manager is asked still
-pub asks_behind : (bytes : List ℕ) (at : ℕ) (r : Recipe) (rest : List ℕ) → first_of (drop at bytes) ≡ One r rest
-    → AsksUserOnly (drop at bytes) → AsksUserOnly (drop (at + (16 + length r.content)) bytes)
-asks_behind bytes at r rest e user =
-    subst AsksUserOnly (sym (behind at bytes r rest e)) (λ rs mid b. user (r ∷ rs) mid (rest, e, b))
 
 -- the bytes behind it
 pub record_rest : (bytes : List ℕ) (at : ℕ) (r : Recipe) (rest : List ℕ) → first_of (drop at bytes) ≡ One r rest
