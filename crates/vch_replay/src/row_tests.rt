@@ -211,6 +211,22 @@ const ROWS: &[Row] = &[
             "report 2\nmade 7 user 6162\ncall 1 1 create 0 1\ncall 1 2 send 0\ncall 1 3 send 268435460\ngone 1 1\ncall 1 4 exit 0\nlost 2\nreleased 1\ncall 2 1 exit 0\ncall 1 5 drop 15\nphase\n",
         ],
     },
+    // A task sends its last name to itself, and gets the voucher by a new one.
+    Row {
+        words: &["play"],
+        scenario: "vouch 1\ntasks 1\ntask 1\nphase\n1 create 07000000d300000000000000020000006162\n1 send 1 move 1 5\n1 extract 1 7\n1 recv\n1 extract 2 7\n1 drop 2\nend\n",
+        parts: &[
+            "report 1\nmade 7 user 6162\ncall 1 1 create 0 1\ncall 1 2 send 0\ncall 1 3 extract 20\ncall 1 4 recv 0 1 5 2\ncall 1 5 extract 0 6162\ncall 1 6 drop 0\nreleased 1\nphase\n",
+        ],
+    },
+    // A task that still has the name gets a user reference more.
+    Row {
+        words: &["play"],
+        scenario: "vouch 1\ntasks 1\ntask 1\nphase\n1 create 07000000d300000000000000020000006162\n1 send 1 copy 1 5\n1 recv\n1 drop 1\n1 drop 1\n1 drop 1\nend\n",
+        parts: &[
+            "report 1\nmade 7 user 6162\ncall 1 1 create 0 1\ncall 1 2 send 0\ncall 1 3 recv 0 1 5 1\ncall 1 4 drop 0\ncall 1 5 drop 0\nreleased 1\ncall 1 6 drop 15\nphase\n",
+        ],
+    },
     // A client and a service, in two phases.
     Row {
         words: &["play"],
@@ -220,7 +236,7 @@ const ROWS: &[Row] = &[
 ];
 
 /// What stands behind the first place of a part of a text.
-fn behind<'a>(text: &'a [u8], part: &[u8]) -> Option<&'a [u8]> {
+pub fn behind<'a>(text: &'a [u8], part: &[u8]) -> Option<&'a [u8]> {
     for at in 0..text.len() {
         if let Some(rest) = text[at..].strip_prefix(part) {
             return Some(rest);
@@ -250,11 +266,16 @@ fn words_of(alloc: Global, words: &[&str]) -> Result<Vec<String>, Fail> {
     Ok(owned)
 }
 
-/// Runs a row over ends that never fail; what it writes.
-fn played(alloc: Global, words: &[&str], scenario: &[u8]) -> Result<SteadySink, Fail> {
+/// Runs words over ends that never fail, with room for so many bytes; what is written.
+pub fn played(
+    alloc: Global,
+    words: &[&str],
+    input: &[u8],
+    room: usize,
+) -> Result<SteadySink, Fail> {
     let words = words_of(alloc, words)?;
-    let mut source = SteadySource::new(Vec::from_slice(alloc, scenario)?);
-    let mut sink = SteadySink::new(alloc, 40000)?;
+    let mut source = SteadySource::new(Vec::from_slice(alloc, input)?);
+    let mut sink = SteadySink::new(alloc, room)?;
     if run_steady(alloc, words.as_slice(), &mut source, &mut sink) != 0 {
         return Err(Fail::new("not done"));
     }
@@ -265,7 +286,7 @@ fn played(alloc: Global, words: &[&str], scenario: &[u8]) -> Result<SteadySink, 
 fn worked_rows(rt: HostRuntime) -> Result<(), Fail> {
     let alloc = rt.alloc();
     for row in ROWS {
-        let sink = played(alloc, row.words, row.scenario.as_bytes())?;
+        let sink = played(alloc, row.words, row.scenario.as_bytes(), 40000)?;
         assert!(rt; has_parts(sink.written(), row.parts));
     }
     Ok(())
@@ -323,7 +344,7 @@ fn lines_of(text: &[u8], line: &[u8]) -> usize {
 fn the_longest_queue(rt: HostRuntime) -> Result<(), Fail> {
     let alloc = rt.alloc();
     let text = long_queue(alloc)?;
-    let sink = played(alloc, &["play"], text.as_slice())?;
+    let sink = played(alloc, &["play"], text.as_slice(), 40000)?;
     assert!(rt;
         has_parts(
             sink.written(),
