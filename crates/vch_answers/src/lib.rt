@@ -6,4 +6,4 @@
 
 mod answering;
 
-pub use answering::answer;
+pub use answering::{answer, out_of_memory};

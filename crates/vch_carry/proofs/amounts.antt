@@ -1,3 +1,4 @@
+pub mod Others
 pub mod Told
 pub mod Named
 pub mod Noted

@@ -8,7 +8,7 @@ ghost use Rattle.vch_model.specs.Lines.{is_task};
 ghost use Rattle.vch_parts.specs.Framed.{begun_of};
 ghost use Rattle.vch_parts.specs.Reached.{Reached, MayFollow};
 ghost use Rattle.vch_replies.specs.Replied.{changed, done_or};
-ghost use Rattle.vch_answers.specs.Answered.{Begins};
+ghost use Rattle.vch_answers.specs.Answered.{Begins, IsOtherReply};
 ghost use Rattle.vch_carry.specs.Amounts.{Notes, named_handle, recounted_by};
 
 use vch_answers::answer;
@@ -39,6 +39,7 @@ pub(crate) fn handle_named(parts: &Parts, task: u32, name: u32, key: Key) -> Res
 
 /// A task's next call counts as begun, and its answer is noted. It takes constant time and no memory.
 pub(crate) fn note(parts: &mut Parts, task: u32, word: Word, reply: Reply)
+    requires other { IsOtherReply reply }
     requires inside { (0 < task) × (task ≤ length parts.old.frames) }
     requires few { begun_of parts.old.frames task < 4294967295 }
     requires room { 1 ≤ parts.old.history.spare }

@@ -12,8 +12,8 @@ ghost use Rattle.vch_answers.specs.Answered.{Begins};
 ghost use Rattle.vch_creating.specs.Extracting.{IsTellable};
 
 use std::alloc::Global;
-use vch_answers::answer;
-use vch_base::codes::{KERN_INVALID_ARGUMENT, KERN_INVALID_CAPABILITY, KERN_RESOURCE_SHORTAGE};
+use vch_answers::{answer, out_of_memory};
+use vch_base::codes::{KERN_INVALID_ARGUMENT, KERN_INVALID_CAPABILITY};
 use vch_base::{Bytes, Code, Key, NoMemory};
 use vch_model::{Reply, Word};
 use vch_parts::Parts;
@@ -70,9 +70,6 @@ pub fn begin_extract(parts: &mut Parts, alloc: Global, task: u32, name: u32, key
 {
     match extracted(alloc, parts, task, name, key) {
         Ok(reply) => answer(parts, task, Word::Extract, reply),
-        Err(_) => {
-            let code = Code::of(KERN_RESOURCE_SHORTAGE);
-            answer(parts, task, Word::Extract, Reply::Refused { code });
-        }
+        Err(cause) => out_of_memory(parts, task, Word::Extract, cause),
     }
 }

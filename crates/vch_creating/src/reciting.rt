@@ -18,8 +18,8 @@ ghost use Rattle.vch_creating.specs.Reciting.{is_own, recipes_told};
 ghost use Rattle.vch_creating.specs.Telling.{AreLive, IsLiveAt};
 
 use std::alloc::Global;
-use vch_answers::answer;
-use vch_base::codes::{KERN_INVALID_CAPABILITY, KERN_RESOURCE_SHORTAGE};
+use vch_answers::{answer, out_of_memory};
+use vch_base::codes::KERN_INVALID_CAPABILITY;
 use vch_base::limits::ARRAY_BYTES;
 use vch_base::{ALL_KEYS, Bytes, Chain, Code, Key, NoMemory, Value, commands};
 use vch_model::{Reply, Word};
@@ -219,7 +219,7 @@ fn answer_recipes(parts: &mut Parts, task: u32, name: u32, reply: Reply)
 }
 
 /// Refuses a request for a recipe that is out of memory.
-fn refuse_recipes(parts: &mut Parts, task: u32, name: u32, _cause: NoMemory)
+fn refuse_recipes(parts: &mut Parts, task: u32, name: u32, cause: NoMemory)
     requires reached { Reached parts.old }
     requires task { IsTrue (is_task parts.old.scenario task) }
     requires begins { Begins parts.old task (calls.Recipes name) }
@@ -227,10 +227,7 @@ fn refuse_recipes(parts: &mut Parts, task: u32, name: u32, _cause: NoMemory)
     ensures { MayFollow kinds.Begin task parts.old parts.new }
 {
     let _ = name;
-    let code = Code {
-        number: KERN_RESOURCE_SHORTAGE,
-    };
-    answer(parts, task, Word::Recipes, Reply::Refused { code });
+    out_of_memory(parts, task, Word::Recipes, cause);
 }
 
 /// Begin of a `recipes`: the call is answered with records that make the voucher of a name again, as far as the task can. Linear

@@ -1,5 +1,5 @@
 -- A call that is answered as it begins, and counts nothing, is the event Begin; and there is room for its answer.
-use Rattle.std.proofs.Common.{◌≡◌, ℕ, ◌+◌, ◌≤◌, nat_lt, Bool, true, false, ◌∷◌, refl, sym, ap, ◌∙◌, subst, Some, None}
+use Rattle.std.proofs.Common.{◌≡◌, ℕ, ◌+◌, ◌≤◌, nat_lt, Bool, true, false, refl, sym, ap, ◌∙◌, subst, Some}
 use Rattle.vch_base.specs.declared.kind.Kind.TheVariants as kinds
 use Rattle.vch_model.specs.Lines.{is_task, lines_until}
 use Rattle.vch_model.specs.Words.{word_of}
@@ -17,8 +17,8 @@ use Rattle.vch_parts.specs.declared.parts.Parts.{Parts}
 use Rattle.vch_parts.specs.Plain.{Plain, part_of}
 use Rattle.vch_parts.specs.Stands.{StandsFor}
 use Rattle.vch_parts.specs.Reached.{plain_of, MayFollow, IsState, Reached}
-use Rattle.vch_parts.proofs.CallerLemmas.{own_frame, own_begun, Happens}
-use Rattle.vch_moves.specs.Moments.{IsFree, IsAnswered}
+use Rattle.vch_parts.proofs.CallerLemmas.{own_frame, own_begun}
+use Rattle.vch_moves.specs.Moments.{IsFree}
 use Rattle.vch_moves.specs.Steps.{machine_begun, answered_first}
 use Rattle.vch_moves.proofs.CallerLemmas.{answers_begin, stands_of, ties_of, from_state, may_follow, free_of, begin_next, begin_event, begin_happens, entry_room}
 use Rattle.vch_answers.specs.Answered.{Answers, Begins}

@@ -6,19 +6,18 @@ use Rattle.vch_bounds.proofs.CallerLemmas.{one_of_all}
 use Rattle.vch_bounds.specs.Spent.{begun_in, in_all}
 use Rattle.vch_model.specs.Lines.{is_task}
 use Rattle.vch_model.specs.Rows.{Entries}
-use Rattle.vch_model.specs.Words.{word_of}
 use Rattle.vch_model.specs.declared.call.Word.{Word}
 use Rattle.vch_model.specs.declared.entry.Entry.{Entry}
 use Rattle.vch_model.specs.declared.entry.Entry.TheVariants as entries
 use Rattle.vch_model.specs.declared.entry.Reply.{Reply}
-use Rattle.vch_machine.specs.State.{Machine, idle, tasked}
+use Rattle.vch_machine.specs.State.{idle, tasked}
 use Rattle.vch_parts.specs.declared.frames.Working.{Working}
 use Rattle.vch_parts.specs.declared.parts.Parts.{Parts}
 use Rattle.vch_parts.specs.Framed.{begun_of, with_begun_of, working_of}
 use Rattle.vch_parts.specs.Plain.{Plain, Part, part_of, idle_part}
 use Rattle.vch_parts.specs.Reached.{plain_of, parts_in, Reached}
 use Rattle.vch_parts.proofs.CallerLemmas.{numbers_of, in_parts, own_begun, range, set_work, side_at}
-use Rattle.vch_moves.specs.Steps.{answered_first, begun_one}
+use Rattle.vch_moves.specs.Steps.{begun_one}
 use Rattle.vch_answers.specs.Answered.{Answers}
 
 -- a task has begun few calls

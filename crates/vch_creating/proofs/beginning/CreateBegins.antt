@@ -1,5 +1,5 @@
 -- A create begins: it is answered at once, or it has a frame.
-use Rattle.std.proofs.Common.{◌≡◌, ℕ, ◌+◌, ◌==◌, ◌||◌, nat_lt, ◌≤◌, Bool, true, false, List, [], refl, sym, ap, ◌∙◌, subst, arith, length, Some}
+use Rattle.std.proofs.Common.{◌≡◌, ℕ, ◌==◌, ◌||◌, nat_lt, ◌≤◌, Bool, true, false, List, [], refl, sym, ap, ◌∙◌, subst, arith, length, Some}
 use Rattle.std.proofs.lemmas.Grind.{common_steps}
 use Rattle.vch_base.specs.declared.codes.TheConstants.{MIG_ARRAY_TOO_LARGE}
 use Rattle.vch_base.specs.declared.kind.Kind.TheVariants as kinds

@@ -30,7 +30,7 @@ use Rattle.vch_parts.specs.Reached.{plain_of, Reached, MayFollow}
 use Rattle.vch_parts.proofs.CallerLemmas.{own_begun}
 use Rattle.vch_moves.specs.Desks.{AllApart, desk_of, option_items, orphaned}
 use Rattle.vch_moves.specs.Steps.{machine_begun, dropped, leaving_frame, less_named}
-use Rattle.vch_moves.proofs.CallerLemmas.{stands_of, ties_of, from_state, may_follow, begin_next, begin_room, drop_at_once, own_desk, desks_then, stepped_begun}
+use Rattle.vch_moves.proofs.CallerLemmas.{ties_of, from_state, may_follow, begin_next, begin_room, drop_at_once, own_desk, desks_then, stepped_begun}
 use Rattle.vch_replies.specs.Told.{values_of}
 use Rattle.vch_replies.proofs.CallerLemmas.{begins, drop_reply}
 use Rattle.vch_answers.specs.Answered.{Begins}

@@ -25,7 +25,7 @@ use Rattle.vch_parts.specs.Nexts.{value_kind}
 use Rattle.vch_parts.specs.Plain.{Indices, Part, part_of, closed}
 use Rattle.vch_parts.specs.Reached.{plain_of, Reached, IsState, IsNext, MayFollow}
 use Rattle.vch_parts.proofs.CallerLemmas.{own_frame, own_begun}
-use Rattle.vch_moves.specs.Desks.{AllApart, desk_of, items, doubled, given, name_of_given}
+use Rattle.vch_moves.specs.Desks.{AllApart, items, doubled, given, name_of_given}
 use Rattle.vch_moves.specs.Steps.{created, ended, refused_call}
 use Rattle.vch_moves.proofs.CallerLemmas.{stands_of, ties_of, from_state, next_in, may_follow, forms_call, AtCall, at_call, at_call_of, create_room, create_wants, create_places, own_desk, all_desks, stepped_is}
 use Rattle.vch_creating.specs.Beginnings.{IsCreating, forming_in}

@@ -97,6 +97,6 @@ module _ (p : Parts) (t : ℕ) (reached : Reached p) (task : is_task p.scenario 
       → begin_call p.scenario false (machine_begun m t) t call (store_reply p.scenario m t call) ≡ replied (machine_begun m t) t call reply
   told_here reply e = replies_here false reply (sym e)
 
-  pub wants_here : (code : Code) → code.number ≡ KERN_RESOURCE_SHORTAGE → has_code (extracted p.scenario.version key (values_by (plain_of p) t name)) ≡ false → (m : Machine) → Moment p t call m
-      → begin_call p.scenario true (machine_begun m t) t call (store_reply p.scenario m t call) ≡ replied (machine_begun m t) t call (replies.Refused code)
-  wants_here code is e = replies_here true (replies.Refused code) (wanting (extracted p.scenario.version key (values_by (plain_of p) t name)) e ∙ sym (ap refused is))
+  pub wants_here : has_code (extracted p.scenario.version key (values_by (plain_of p) t name)) ≡ false → (m : Machine) → Moment p t call m
+      → begin_call p.scenario true (machine_begun m t) t call (store_reply p.scenario m t call) ≡ replied (machine_begun m t) t call (refused KERN_RESOURCE_SHORTAGE)
+  wants_here e = replies_here true (refused KERN_RESOURCE_SHORTAGE) (wanting (extracted p.scenario.version key (values_by (plain_of p) t name)) e)

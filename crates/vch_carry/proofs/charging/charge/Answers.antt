@@ -5,7 +5,12 @@ use Rattle.vch_base.specs.declared.key.Key.TheVariants as keys
 use Rattle.vch_carry.proofs.amounts.Named.{found}
 use Rattle.vch_carry.proofs.amounts.Noting.{mid_inside, mid_few, mid_room}
 use Rattle.vch_carry.proofs.amounts.Charged.{charge_room, charge_follows}
+use Rattle.vch_bank.specs.Bank.{payer_at}
+use Rattle.vch_carry.proofs.amounts.Others.{charge_other}
 use Rattle.vch_carry.proofs.charging.charge.Goals as goal
+
+pub note-requires-clause-other : goal.note-requires-clause-other
+note-requires-clause-other c = charge_other (payer_at c.args.parts.now.values.bank.kept c.args.handle c.args.task) c.pay-reply.result c.pay-reply.ensures.reply
 
 pub pay-reply-requires-clause-live : goal.pay-reply-requires-clause-live
 pay-reply-requires-clause-live c = (found c.args.parts.now c.args.task c.requires.reached c.requires.task c.args.name keys.Bank c.args.handle c.requires.handle).live

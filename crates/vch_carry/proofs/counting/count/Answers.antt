@@ -5,7 +5,12 @@ use Rattle.vch_base.specs.declared.key.Key.TheVariants as keys
 use Rattle.vch_carry.proofs.amounts.Named.{found}
 use Rattle.vch_carry.proofs.amounts.Noting.{mid_inside, mid_few, mid_room}
 use Rattle.vch_carry.proofs.amounts.Counted.{count_room, count_follows}
+use Rattle.vch_base.specs.Managers.{live_at}
+use Rattle.vch_carry.proofs.amounts.Others.{count_other}
 use Rattle.vch_carry.proofs.counting.count.Goals as goal
+
+pub note-requires-clause-other : goal.note-requires-clause-other
+note-requires-clause-other c = count_other c.args.adding (live_at c.args.parts.now.values.importance.kept.slots c.args.handle) c.args.task c.args.n c.recount-reply.result c.recount-reply.ensures.reply
 
 pub recount-reply-requires : goal.recount-reply-requires
 recount-reply-requires c = record { live = (found c.args.parts.now c.args.task c.requires.reached c.requires.task c.args.name keys.Importance c.args.handle c.requires.handle).live }

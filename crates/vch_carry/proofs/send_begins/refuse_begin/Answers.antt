@@ -5,7 +5,12 @@ use Rattle.vch_parts.proofs.CallerLemmas.{task_inside}
 use Rattle.vch_carry.proofs.glue.Begun.{begun_few}
 use Rattle.vch_carry.proofs.begun.Answered.{answer_room, answered_then}
 use Rattle.vch_carry.proofs.begun.SendBegins.{refuses}
+use Rattle.vch_parts.specs.Reached.{plain_of}
+use Rattle.vch_carry.proofs.amounts.Others.{send_other}
 use Rattle.vch_carry.proofs.send_begins.refuse_begin.Goals as goal
+
+pub answer-requires-clause-other : goal.answer-requires-clause-other
+answer-requires-clause-other c = send_other c.args.parts.now.scenario (plain_of c.args.parts.now) c.args.task c.args.sending.to c.args.sending.name c.args.code c.requires.code
 
 pub answer-requires-clause-task : goal.answer-requires-clause-task
 answer-requires-clause-task c = task_inside c.args.parts.now c.args.task c.requires.reached c.requires.task

@@ -7,11 +7,11 @@ use Rattle.vch_answers.proofs.CallerLemmas.{answer_room, answer_follows}
 use Rattle.vch_creating.proofs.telling.Recited.{recipes_want_told}
 use Rattle.vch_creating.proofs.reciting.refuse_recipes.Goals as goal
 
-pub answer-requires-clause-room : goal.answer-requires-clause-room
-answer-requires-clause-room c = answer_room c.args.parts.now c.args.task (calls.Recipes c.args.name) c.requires.reached c.requires.task c.requires.begins true (refused KERN_RESOURCE_SHORTAGE)
+pub out_of_memory-requires-clause-room : goal.out_of_memory-requires-clause-room
+out_of_memory-requires-clause-room c = answer_room c.args.parts.now c.args.task (calls.Recipes c.args.name) c.requires.reached c.requires.task c.requires.begins true (refused KERN_RESOURCE_SHORTAGE)
     (recipes_want_told c.args.parts.now c.args.task c.requires.task c.args.name c.requires.wants)
 
 pub returns : goal.returns
 returns c = answer_follows c.args.parts.now c.args.task (calls.Recipes c.args.name) c.requires.reached c.requires.task c.requires.begins true (refused KERN_RESOURCE_SHORTAGE)
     (recipes_want_told c.args.parts.now c.args.task c.requires.task c.args.name c.requires.wants)
-    c.answer.new.parts words.Recipes refl refl c.answer.ensures
+    c.out_of_memory.new.parts words.Recipes refl refl c.out_of_memory.ensures

@@ -1,9 +1,9 @@
-use Rattle.std.proofs.Common.{◌∙◌, ap, sym}
+use Rattle.std.proofs.Common.{◌∙◌, ap}
 use Rattle.std.specs.Prelude.{◌++◌, ◌∷◌, []}
 use Rattle.vch_model.specs.declared.entry.Entry.TheVariants as entries
 use Rattle.vch_parts.proofs.CallerLemmas.{task_inside}
 use Rattle.vch_answers.proofs.answered.Begun.{begun_few, answer_is}
-use Rattle.vch_answers.proofs.answering.answer.Goals as goal
+use Rattle.vch_answers.proofs.answering.answer_with.Goals as goal
 
 pub begin-number-requires-clause-task : goal.begin-number-requires-clause-task
 begin-number-requires-clause-task c = task_inside c.args.parts.now c.args.task c.requires.reached c.requires.task
