@@ -12,6 +12,7 @@ pub mod Turned
 pub mod Advancing
 pub mod Ending
 pub mod Finishing
+pub mod Giving
 pub mod Drawing
 pub mod Keeping
 pub mod Driving

@@ -1,7 +1,9 @@
+ghost use Rattle.vch_runs.specs.GivesBack.{GivesBack};
 ghost use Rattle.vch_runs.specs.Runs.{EndsInTurn};
 
 use crate::turn::{start_cursor, turn};
 use std::alloc::Global;
+use vch_legal::all_is_given_back;
 use vch_whole::Core;
 
 /// More moves than any run has.
@@ -12,12 +14,15 @@ pub const MOST_MOVES: u64 = 1099511627776;
 ///
 /// It takes the time of the events, and for each call and each phase time linear in the number of tasks.
 pub fn finish(core: &mut Core, alloc: Global)
-    ensures { EndsInTurn core.old core.new }
+    ensures ends { EndsInTurn core.old core.new }
+    ensures given_back { GivesBack core.new }
 {
+    all_is_given_back();
     core.know();
     let mut cursor = start_cursor(core);
     let mut from = 1;
     for _move in 0..MOST_MOVES {
+        core.know();
         if core.ended() {
             return;
         }

@@ -1,6 +1,7 @@
 ghost use Rattle.std.specs.Prelude.{◌≡◌, ◌<◌, ◌≤◌, ◌++◌, ◌∷◌, [], length, IfSome, IsTrue};
 ghost use Rattle.vch_machine.specs.Schedules as schedules;
 ghost use Rattle.vch_model.specs.Lines.{is_task};
+ghost use Rattle.vch_runs.specs.GivesBack.{GivesBack};
 ghost use Rattle.vch_runs.specs.Runs.{EndsBySeed};
 ghost use Rattle.vch_runs.specs.Turning.{AreReady, CanGo, Draws, IsDraw, IsReady, StillReady};
 
@@ -8,6 +9,7 @@ use crate::ends::MOST_MOVES;
 use crate::turn::go;
 use arrayvec::ArrayVec;
 use std::alloc::Global;
+use vch_legal::all_is_given_back;
 use vch_whole::Core;
 
 /// The seed behind another one, by a linear congruence modulo 2 to the 64.
@@ -96,12 +98,15 @@ fn drawn_move(core: &mut Core, alloc: Global, seed: &mut u64, tasks: &mut ArrayV
 /// the time of the events; time linear in the number of tasks is taken once for each phase, and for each task in it that has
 /// no more to do.
 pub fn drive_seed(core: &mut Core, alloc: Global, seed: u64)
-    ensures { EndsBySeed seed core.old core.new }
+    ensures ends { EndsBySeed seed core.old core.new }
+    ensures given_back { GivesBack core.new }
 {
+    all_is_given_back();
     core.know();
     let mut now = seed;
     let mut tasks = ready_tasks(core);
     for _move in 0..MOST_MOVES {
+        core.know();
         if core.ended() {
             return;
         }
