@@ -38,6 +38,54 @@ const ROWS: &[Row] = &[
         order: &[1, 1, 1, 1, 1, 1, 1, 2, 2, 2, 2, 2, 1, 1, 1],
         report: "report 1\nmade 7 user 6162\ncall 1 1 create 0 1\ncall 1 2 drop 0\nreleased 1\nmade 7 user 6162\ncall 2 1 create 4\nreleased 5\nphase\ntask 1 ledger 0 held 0 out 0\ntask 2 ledger 0 held 0 out 0\nvouchers 0 values 1\nend\n",
     },
+    // Two sends begin at a queue with room for one message: the one that is placed later is refused.
+    Row {
+        scenario: b"vouch 2\ntasks 3\ntask 1\ntask 2\ntask 3 queue 1\nphase\n1 create 07000000d300000000000000020000006162\n1 send 3 copy 1 1\n2 create 07000000d300000000000000020000006364\n2 send 3 move 1 2\n3 recv\nend\n",
+        order: &[1, 1, 1, 1, 2, 2, 2, 2, 1, 2, 2, 1],
+        report: "report 2\nmade 7 user 6162\ncall 1 1 create 0 1\nmade 7 user 6364\ncall 2 1 create 0 1\ncall 2 2 send 0\ncall 1 2 send 268435460\ncall 3 1 recv 0 2 2 1\nphase\ntask 1 ledger 0 held 0 out 0\ntask 2 ledger 0 held 0 out 0\ntask 3 ledger 0 held 0 out 0\nvouchers 2 values 3\nend\n",
+    },
+    // A send asks for a value of a task before the question about it: the manager refuses, and the value is sent.
+    Row {
+        scenario: b"vouch 1\ntasks 3\ntask 1\ntask 2\ntask 3\nphase\n1 create 03000000620200000000000000000000\n1 send 2 copy 1 7\n1 send 3 copy 1 8\n2 recv\n2 charge 1 70\n3 recv\nend\n",
+        order: &[
+            1, 1, 1, 1, 1, 1, 1, 1, 1, 1, 2, 2, 2, 2, 2, 2, 1, 2, 2, 1, 1, 1,
+        ],
+        report: "report 1\ncall 1 1 create 0 1\nmade 3 task 1\ncall 1 2 send 0\nmade 3 account 1 2\ncall 2 1 recv 0 1 7 1\ncall 1 3 send 0\ncall 2 2 charge 0\nmade 3 account 1 3\ncall 3 1 recv 0 1 8 1\nreleased 2\nphase\ntask 1 ledger 0 held 0 out 0\ntask 2 ledger 0 held 0 out 0\ntask 3 ledger 0 held 0 out 0\nvouchers 3 values 3\nend\n",
+    },
+    // And after the manager agreed: the value is made anew, and the claim ends at the look at its answer.
+    Row {
+        scenario: b"vouch 1\ntasks 3\ntask 1\ntask 2\ntask 3\nphase\n1 create 03000000620200000000000000000000\n1 send 2 copy 1 7\n1 send 3 copy 1 8\n2 recv\n2 charge 1 70\n3 recv\nend\n",
+        order: &[
+            1, 1, 1, 1, 1, 1, 1, 1, 1, 1, 2, 2, 2, 2, 2, 2, 2, 1, 1, 1, 2, 1,
+        ],
+        report: "report 1\ncall 1 1 create 0 1\nmade 3 task 1\ncall 1 2 send 0\nmade 3 account 1 2\ncall 2 1 recv 0 1 7 1\nreleased 2\nmade 3 task 1\ncall 1 3 send 0\ncall 2 2 charge 0\nmade 3 account 1 3\ncall 3 1 recv 0 1 8 1\nreleased 7\nphase\ntask 1 ledger 0 held 0 out 0\ntask 2 ledger 0 held 0 out 0\ntask 3 ledger 0 held 0 out 0\nvouchers 3 values 3\nend\n",
+    },
+    // What is due is credited as the manager agrees, and not as the name is dropped.
+    Row {
+        scenario: b"vouch 1\ntasks 2\ntask 1\ntask 2\nphase\n1 create 03000000620200000000000000000000\n1 send 2 copy 1 7\n2 recv\n2 charge 1 70\n2 drop 1\n1 ledger\n1 ledger\nend\n",
+        order: &[
+            1, 1, 1, 1, 1, 1, 1, 1, 1, 2, 2, 2, 2, 2, 2, 2, 2, 2, 2, 2, 1, 2, 1,
+        ],
+        report: "report 1\ncall 1 1 create 0 1\nmade 3 task 1\ncall 1 2 send 0\nmade 3 account 1 2\ncall 2 1 recv 0 1 7 1\nreleased 2\ncall 2 2 charge 0\ncall 2 3 drop 0\ncall 1 3 ledger 0 0\nreleased 4\ncall 1 4 ledger 0 70\nphase\ntask 1 ledger 70 held 0 out 0\ntask 2 ledger 0 held 0 out 0\nvouchers 1 values 1\nend\n",
+    },
+    // A list counts from when it is made, before its receive is answered, until it is released.
+    Row {
+        scenario: b"vouch 1\ntasks 2\ntask 1 donor\ntask 2 receiver\nphase\n1 create 02000000c80000000000000000000000\n1 send 2 copy 1 5\n2 recv\n2 drop 1\n1 assertions\n1 assertions\n1 assertions\nend\n",
+        order: &[1, 1, 1, 1, 1, 1, 1, 2, 2, 1, 2, 2, 2, 2, 2, 1, 2, 1],
+        report: "report 1\nmade 2 list 1\ncall 1 1 create 0 1\ncall 1 2 send 0\nmade 2 list 1,2\ncall 1 3 assertions 0 0 1\ncall 2 1 recv 0 1 5 1\ncall 2 2 drop 0\ncall 1 4 assertions 0 0 1\nreleased 4\ncall 1 5 assertions 0 0 0\nphase\ntask 1 ledger 0 held 0 out 0\ntask 2 ledger 0 held 0 out 0\nvouchers 1 values 2\nend\n",
+    },
+    // A value of a name that an exit gave up is made again before the question about it.
+    Row {
+        scenario: b"vouch 2\ntasks 2\ntask 1\ntask 2\nphase\n1 create 07000000d300000000000000020000006162\n1 exit\n2 create 07000000d300000000000000020000006162\nend\n",
+        order: &[1, 1, 1, 1, 1, 1, 1, 2, 2, 1, 1, 2, 2],
+        report: "report 2\nmade 7 user 6162\ncall 1 1 create 0 1\ngone 1 1\ncall 2 1 create 0 1\ncall 1 2 exit 0\nphase\ntask 1 ledger 0 held 0 out 0\ntask 2 ledger 0 held 0 out 0\nvouchers 1 values 2\nend\n",
+    },
+    // And so is that of a message which an exit lost.
+    Row {
+        scenario: b"vouch 2\ntasks 2\ntask 1\ntask 2\nphase\n1 create 07000000d300000000000000020000006162\n1 send 2 move 1 1\n2 exit\n1 create 07000000d300000000000000020000006162\nend\n",
+        order: &[1, 1, 1, 1, 1, 1, 1, 2, 2, 1, 2, 1, 2, 2, 1, 1],
+        report: "report 2\nmade 7 user 6162\ncall 1 1 create 0 1\ncall 1 2 send 0\nlost 2\ncall 1 3 create 0 2\ncall 2 1 exit 0\nphase\ntask 1 ledger 0 held 0 out 0\ntask 2 ledger 0 held 0 out 0\nvouchers 1 values 2\nend\n",
+    },
 ];
 
 /// The scenario of some bytes.

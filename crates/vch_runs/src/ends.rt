@@ -10,7 +10,8 @@ use vch_whole::Core;
 pub const MOST_MOVES: u64 = 1099511627776;
 
 /// Runs a core to the end, in turn: the lowest task that has a call under way goes on, else the task of the first line of
-/// the phase that was not begun, and where there is none the phase ends. Afterwards all phases have ended.
+/// the phase that was not begun, and where there is none the phase ends. Afterwards all phases have ended; and where the last
+/// one has exits alone, at least one of each task, all is given back.
 ///
 /// It takes the time of the events, and for each call and each phase time linear in the number of tasks.
 pub fn finish(core: &mut Core, alloc: Global)

@@ -92,7 +92,8 @@ fn drawn_move(core: &mut Core, alloc: Global, seed: &mut u64, tasks: &mut ArrayV
 }
 
 /// Runs a core to the end by the schedule of a seed: each event is that of a task which the seed chooses among those that
-/// have one, and where none has one the phase ends. Afterwards all phases have ended.
+/// have one, and where none has one the phase ends. Afterwards all phases have ended; and where the last one has exits alone,
+/// at least one of each task, all is given back.
 ///
 /// A draw is the upper 31 bits of the next seed, modulo the number of those tasks, which count from the lowest. It takes
 /// the time of the events; time linear in the number of tasks is taken once for each phase, and for each task in it that has
