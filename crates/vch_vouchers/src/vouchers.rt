@@ -119,7 +119,7 @@ impl Vouchers {
 
     /// Gives a task a voucher: one more user reference on the name that has it, else the next name.
     ///
-    /// The time is linear in the names of the task, and that of one look-up in the table.
+    /// The time is logarithmic in the names of the task, and that of two look-ups in the table.
     ///
     /// # Errors
     ///
