@@ -9,7 +9,7 @@ use vch_recipe::{Recipe, RecipeFault, Recipes};
 use vch_text::{push_hex, push_spaced, push_text};
 
 /// Appends the line of a record.
-fn push_recipe(alloc: Global, out: &mut Vec<u8>, recipe: &Recipe) -> Result<(), NoMemory>
+fn push_recipe(out: &mut Vec<u8>, recipe: &Recipe) -> Result<(), NoMemory>
     ensures { OnOk result (out.new.items ≡ out.old.items ++ lines.recipe_line recipe.now) }
 {
     push_text(out, b"recipe")?;
@@ -17,16 +17,16 @@ fn push_recipe(alloc: Global, out: &mut Vec<u8>, recipe: &Recipe) -> Result<(), 
     push_spaced(out, recipe.command)?;
     push_spaced(out, recipe.previous)?;
     push_text(out, b" ")?;
-    push_hex(alloc, out, recipe.content.as_slice())?;
+    push_hex(out, recipe.content.as_slice())?;
     push_text(out, b"\n")
 }
 
 /// Appends the lines of records.
-fn push_recipes(alloc: Global, out: &mut Vec<u8>, records: &Recipes) -> Result<(), NoMemory>
+fn push_recipes(out: &mut Vec<u8>, records: &Recipes) -> Result<(), NoMemory>
     ensures { OnOk result (out.new.items ≡ out.old.items ++ flat_map lines.recipe_line records.now) }
 {
     for i in 0..records.len() {
-        push_recipe(alloc, out, records.at(i))?;
+        push_recipe(out, records.at(i))?;
     }
     Ok(())
 }
@@ -36,7 +36,7 @@ pub fn listing(alloc: Global, records: &Recipes) -> Result<Vec<u8>, NoMemory>
     ensures { IfOk result (λ text. text.items ≡ lines.recipe_text records.now) }
 {
     let mut out = Vec::new(alloc);
-    push_recipes(alloc, &mut out, records)?;
+    push_recipes(&mut out, records)?;
     push_text(&mut out, b"end\n")?;
     Ok(out)
 }

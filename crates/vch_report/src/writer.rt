@@ -33,7 +33,7 @@ fn verb_text(word: Word) -> &'static [u8]
 }
 
 /// Appends a reply.
-fn push_reply(alloc: Global, out: &mut Vec<u8>, reply: &Reply) -> Result<(), NoMemory>
+fn push_reply(out: &mut Vec<u8>, reply: &Reply) -> Result<(), NoMemory>
     ensures { OnOk result (out.new.items ≡ out.old.items ++ reply_text reply.now) }
 {
     match reply {
@@ -44,7 +44,7 @@ fn push_reply(alloc: Global, out: &mut Vec<u8>, reply: &Reply) -> Result<(), NoM
         Reply::Done => push_text(out, b"0"),
         Reply::Content { bytes } => {
             push_text(out, b"0 ")?;
-            push_hex(alloc, out, bytes.as_slice())
+            push_hex(out, bytes.as_slice())
         }
         Reply::Recipe { whole, bytes } => {
             if *whole {
@@ -52,7 +52,7 @@ fn push_reply(alloc: Global, out: &mut Vec<u8>, reply: &Reply) -> Result<(), NoM
             } else {
                 push_text(out, b"0 part ")?;
             }
-            push_hex(alloc, out, bytes.as_slice())
+            push_hex(out, bytes.as_slice())
         }
         Reply::Received { sender, id, name } => {
             push_text(out, b"0")?;
@@ -92,14 +92,14 @@ fn push_list(out: &mut Vec<u8>, list: &Chain) -> Result<(), NoMemory>
 }
 
 /// Appends a value that is made.
-fn push_value(alloc: Global, out: &mut Vec<u8>, value: &Value) -> Result<(), NoMemory>
+fn push_value(out: &mut Vec<u8>, value: &Value) -> Result<(), NoMemory>
     requires { IsRanged value.now }
     ensures { OnOk result (out.new.items ≡ out.old.items ++ value_text value.now) }
 {
     match value {
         Value::User { bytes } => {
             push_text(out, b" user ")?;
-            push_hex(alloc, out, bytes.as_slice())
+            push_hex(out, bytes.as_slice())
         }
         Value::Chain { list } => {
             push_text(out, b" list ")?;
@@ -119,7 +119,7 @@ fn push_value(alloc: Global, out: &mut Vec<u8>, value: &Value) -> Result<(), NoM
 }
 
 /// Appends an entry without the end of its line.
-fn push_entry_text(alloc: Global, out: &mut Vec<u8>, entry: &Entry) -> Result<(), NoMemory>
+fn push_entry_text(out: &mut Vec<u8>, entry: &Entry) -> Result<(), NoMemory>
     requires { Making IsRanged entry.now }
     ensures { OnOk result (out.new.items ≡ out.old.items ++ entry_text entry.now) }
 {
@@ -136,12 +136,12 @@ fn push_entry_text(alloc: Global, out: &mut Vec<u8>, entry: &Entry) -> Result<()
             push_text(out, b" ")?;
             push_text(out, verb_text(*word))?;
             push_text(out, b" ")?;
-            push_reply(alloc, out, reply)
+            push_reply(out, reply)
         }
         Entry::Made { key, value } => {
             push_text(out, b"made")?;
             push_spaced(out, *key)?;
-            push_value(alloc, out, value)
+            push_value(out, value)
         }
         Entry::Released { made } => {
             push_text(out, b"released")?;
@@ -161,21 +161,21 @@ fn push_entry_text(alloc: Global, out: &mut Vec<u8>, entry: &Entry) -> Result<()
 }
 
 /// Appends the line of an entry.
-fn push_entry(alloc: Global, out: &mut Vec<u8>, entry: &Entry) -> Result<(), NoMemory>
+fn push_entry(out: &mut Vec<u8>, entry: &Entry) -> Result<(), NoMemory>
     requires { Making IsRanged entry.now }
     ensures { OnOk result (out.new.items ≡ out.old.items ++ entry_line entry.now) }
 {
-    push_entry_text(alloc, out, entry)?;
+    push_entry_text(out, entry)?;
     push_text(out, b"\n")
 }
 
 /// Appends the lines of the entries.
-fn push_entries(alloc: Global, out: &mut Vec<u8>, history: &History) -> Result<(), NoMemory>
+fn push_entries(out: &mut Vec<u8>, history: &History) -> Result<(), NoMemory>
     requires { AllByRecursion (Making IsRanged) history.now.entries }
     ensures { OnOk result (out.new.items ≡ out.old.items ++ flat_map entry_line history.now.entries) }
 {
     for i in 0..history.len() {
-        push_entry(alloc, out, history.at(i))?;
+        push_entry(out, history.at(i))?;
     }
     Ok(())
 }
@@ -220,8 +220,8 @@ fn push_last(out: &mut Vec<u8>, vouchers: u64, values: u64) -> Result<(), NoMemo
 
 /// The text of a report. The one error is out of memory.
 ///
-/// It goes over the report once and appends to one buffer, in time that grows with the text. The
-/// digits of a number are made in place; those of bytes are made apart and copied.
+/// It goes over the report once and appends to one buffer, in time that grows with the text. All
+/// digits are made in place.
 pub fn write(alloc: Global, report: &Report) -> Result<Vec<u8>, NoMemory>
     requires { IsWellFormed report.now }
     ensures { IfOk result (λ text. text.items ≡ text_of report.now) }
@@ -230,7 +230,7 @@ pub fn write(alloc: Global, report: &Report) -> Result<Vec<u8>, NoMemory>
     push_text(&mut out, b"report")?;
     push_spaced(&mut out, report.version)?;
     push_text(&mut out, b"\n")?;
-    push_entries(alloc, &mut out, &report.history)?;
+    push_entries(&mut out, &report.history)?;
     push_totals(&mut out, &report.totals)?;
     push_last(&mut out, report.vouchers, report.values)?;
     Ok(out)

@@ -34,13 +34,13 @@ fn text_of(call: &Call) -> &'static [u8]
 }
 
 /// Adds what stands behind the word of a call.
-fn push_behind(alloc: Global, out: &mut Vec<u8>, call: &Call) -> Result<(), NoMemory>
+fn push_behind(out: &mut Vec<u8>, call: &Call) -> Result<(), NoMemory>
     ensures { OnOk result (out.new.items ≡ out.old.items ++ spelled_text (grammar.behind_word call.now)) }
 {
     match call {
         Call::Create { bytes } => {
             push_text(out, b" ")?;
-            push_hex(alloc, out, bytes.as_slice())
+            push_hex(out, bytes.as_slice())
         }
         Call::GiveUp { name } => push_spaced(out, *name),
         Call::Extract { name, key } => {
@@ -85,13 +85,13 @@ fn push_behind(alloc: Global, out: &mut Vec<u8>, call: &Call) -> Result<(), NoMe
 }
 
 /// Adds a call line.
-fn push_line(alloc: Global, out: &mut Vec<u8>, line: &Line) -> Result<(), NoMemory>
+fn push_line(out: &mut Vec<u8>, line: &Line) -> Result<(), NoMemory>
     ensures { OnOk result (out.new.items ≡ out.old.items ++ item_line (grammar.Calls line.now)) }
 {
     push_number(out, u64::from(line.task))?;
     push_text(out, b" ")?;
     push_text(out, text_of(&line.call))?;
-    push_behind(alloc, out, &line.call)?;
+    push_behind(out, &line.call)?;
     push_text(out, b"\n")
 }
 
@@ -144,22 +144,22 @@ fn push_tasks(out: &mut Vec<u8>, flags: &FlagList, queues: &QueueList) -> Result
 }
 
 /// Adds the call lines of a phase.
-fn push_lines(alloc: Global, out: &mut Vec<u8>, lines: &LineList) -> Result<(), NoMemory>
+fn push_lines(out: &mut Vec<u8>, lines: &LineList) -> Result<(), NoMemory>
     ensures { OnOk result (out.new.items ≡ out.old.items ++ items_text (line_items lines.now)) }
 {
     for i in 0..lines.len() {
-        push_line(alloc, out, lines.at(i))?;
+        push_line(out, lines.at(i))?;
     }
     Ok(())
 }
 
 /// Adds the phases.
-fn push_phases(alloc: Global, out: &mut Vec<u8>, phases: &PhaseList) -> Result<(), NoMemory>
+fn push_phases(out: &mut Vec<u8>, phases: &PhaseList) -> Result<(), NoMemory>
     ensures { OnOk result (out.new.items ≡ out.old.items ++ items_text (phase_items phases.now)) }
 {
     for i in 0..phases.len() {
         push_text(out, b"phase\n")?;
-        push_lines(alloc, out, phases.at(i))?;
+        push_lines(out, phases.at(i))?;
     }
     Ok(())
 }
@@ -180,7 +180,7 @@ pub fn write(alloc: Global, scenario: &Scenario) -> Result<Vec<u8>, NoMemory>
     push_number(&mut out, scenario.flags.len() as u64)?;
     push_text(&mut out, b"\n")?;
     push_tasks(&mut out, &scenario.flags, &scenario.queues)?;
-    push_phases(alloc, &mut out, &scenario.phases)?;
+    push_phases(&mut out, &scenario.phases)?;
     push_text(&mut out, b"end\n")?;
     Ok(out)
 }

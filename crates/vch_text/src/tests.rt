@@ -12,9 +12,9 @@ fn written(alloc: Global) -> Result<Vec<u8>, NoMemory> {
     push_spaced(&mut out, u128::MAX)?;
     push_spaced(&mut out, -307i32)?;
     push_text(&mut out, b" ")?;
-    push_hex(alloc, &mut out, b"\x00\xff")?;
+    push_hex(&mut out, b"\x00\xff")?;
     push_text(&mut out, b" ")?;
-    push_hex(alloc, &mut out, b"")?;
+    push_hex(&mut out, b"")?;
     push_text(&mut out, b"\nrest")?;
     Ok(out)
 }
