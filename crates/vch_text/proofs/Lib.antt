@@ -6,7 +6,6 @@ pub mod NumberSteps
 pub mod NumbersBack
 pub mod Decimals
 pub mod Hexes
-pub mod HexDigits
 pub mod DigitPairs
 pub mod Plain
 pub mod Amounts

@@ -1,5 +1,5 @@
-ghost use Rattle.std.specs.Prelude.{◌≡◌, ◌≤◌, ◌+◌, ◌*◌, ◌∷◌, ◌++◌, length, vec_len, vec_capacity, OnOk, OnErr};
-ghost use Rattle.hex.specs.Hex.{encode_lower};
+ghost use Rattle.std.specs.Prelude.{◌≡◌, ◌<◌, ◌*◌, ◌∷◌, ◌++◌, length, slice_index, OnOk, OnErr};
+ghost use Rattle.hex.specs.Hex.{encode_lower, lower_digits};
 ghost use Rattle.vch_model.specs.Text.{hex_of};
 
 use itoa::{Buffer, Integer};
@@ -38,18 +38,24 @@ pub fn push_spaced<I: Integer>(out: &mut Vec<u8>, n: I) -> Result<(), NoMemory>
     Ok(())
 }
 
-/// The digits below 16.
-static DIGITS: [u8; 16] = *b"0123456789abcdef";
+/// The digit of a number below 16.
+#[inline(always)]
+fn digit_of(n: u8) -> u8
+    requires { n < 16 }
+    ensures { result ≡ slice_index lower_digits n }
+{
+    if n < 10 { b'0' + n } else { b'a' - 10 + n }
+}
 
-/// Appends the digits of bytes, for which there is room.
-fn put_digits(out: &mut Vec<u8>, bytes: &[u8])
-    requires { vec_len out.old + 2 * length bytes.now ≤ vec_capacity out.old }
-    ensures { out.new.items ≡ out.old.items ++ encode_lower bytes.now }
+/// Writes the digits of bytes.
+fn fill_digits(digits: &mut [u8], bytes: &[u8])
+    requires { length digits.old ≡ 2 * length bytes.now }
+    ensures { digits.new ≡ encode_lower bytes.now }
 {
     'bytes: for i in 0..bytes.len() {
-        let byte = bytes[i] as usize;
-        out.push_reserved(DIGITS[byte / 16]);
-        out.push_reserved(DIGITS[byte % 16]);
+        let byte = bytes[i];
+        digits[2 * i] = digit_of(byte / 16);
+        digits[2 * i + 1] = digit_of(byte % 16);
     }
 }
 
@@ -61,7 +67,9 @@ pub fn push_hex(out: &mut Vec<u8>, bytes: &[u8]) -> Result<(), NoMemory>
     if bytes.is_empty() {
         return push_text(out, b"-");
     }
+    let at = out.len();
     out.reserve(2 * bytes.len())?;
-    put_digits(out, bytes);
+    out.resize(at + 2 * bytes.len(), 0)?;
+    fill_digits(out.slice_mut(at..), bytes);
     Ok(())
 }
