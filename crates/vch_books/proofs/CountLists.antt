@@ -1,5 +1,5 @@
 -- Counts, when an item comes or goes somewhere in the list.
-use Rattle.std.proofs.Common.{◌≡◌, ℕ, ◌+◌, ◌<◌, ◌≤◌, Bool, List, [], ◌∷◌, ◌++◌, refl, true, false, arith, ap, sym, ◌∙◌, subst, Some, None, Option, cond, ◌||◌}
+use Rattle.std.proofs.Common.{◌≡◌, ℕ, ◌+◌, ◌<◌, ◌≤◌, Bool, List, [], ◌∷◌, ◌++◌, refl, true, false, arith, ap, sym, ◌∙◌, Some, None, Option, cond, ◌||◌}
 use Rattle.std.specs.Prelude.{if◌then◌else◌, nat_lt, is_some, IsSome, ◌-◌}
 use Rattle.std.proofs.lemmas.Grind.{common_steps}
 use Rattle.std.proofs.lemmas.List.Sums.{sum_by-cons}
@@ -108,6 +108,18 @@ module _ {A : Type 0} (eq : A → A → Bool) (laws : IsEquivalence eq) where
         by : (b : Bool) → cond b w (get eq m y) ≡ Some n → 0 < n
         by true e = f n e
         by false e = g y n e
+
+    -- a count that was lent and not changed
+    pub unwritten : (m m2 : IndexMap A ℕ S) (xs : List A) (x : A) (n : ℕ) → Counts eq m xs → Some n ≡ get eq m x → ((q : A) → get eq m2 q ≡ cond (eq x q) (Some n) (get eq m q)) → index_map_len m2 ≡ index_map_len m → Counts eq m2 xs
+    unwritten m m2 xs x n c there u long = record {
+      times = λ q. ap (λ (i : Option ℕ). unwrap_or i 0) (u q) ∙ by q (eq x q) refl;
+      some = kept m m2 x (Some n) (λ k e. c.some x k (sym there ∙ e)) c.some u;
+      many = long ∙ c.many;
+    }
+      where
+        by : (q : A) (b : Bool) → eq x q ≡ b → unwrap_or (cond b (Some n) (get eq m q)) 0 ≡ count_by (eq q) xs
+        by q true e = ap (λ (i : Option ℕ). unwrap_or i 0) there ∙ (c.times x ∙ same_count xs x q e)
+        by q false e = c.times q
 
     pub added : (m m2 : IndexMap A ℕ S) (front back : List A) (x : A) (n : ℕ) → Counts eq m (front ++ back) → n ≡ count_at (get eq m) x + 1
         → ((q : A) → get eq m2 q ≡ cond (eq x q) (Some n) (get eq m q)) → index_map_len m2 ≡ index_map_len m + (if is_some (get eq m x) then 0 else 1) → Counts eq m2 (front ++ x ∷ back)

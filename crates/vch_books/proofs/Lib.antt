@@ -15,6 +15,8 @@ pub mod Held
 pub mod AllHeld
 pub mod Unheld
 pub mod CountLists
+pub mod EachOnce
+pub mod HeldNumbers
 pub mod Tallies
 pub mod Holdings
 pub mod Contents

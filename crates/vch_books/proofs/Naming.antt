@@ -1,5 +1,5 @@
 -- What the changes of names leave to find.
-use Rattle.std.proofs.Common.{◌≡◌, ℕ, Bool, List, [], ◌∷◌, ◌++◌, ◌+◌, ◌-◌, refl, true, false, ap, sym, ◌∙◌, subst, Some, None, Option, inl, inr, cond, ◌&&◌, arith}
+use Rattle.std.proofs.Common.{◌≡◌, ℕ, Bool, List, [], ◌∷◌, ◌++◌, ◌+◌, refl, true, false, ap, sym, ◌∙◌, subst, Some, None, Option, inl, inr, cond, ◌&&◌, arith}
 use Rattle.std.specs.Prelude.{◌⊎◌, ◌==◌, nat_lt}
 use Rattle.std.proofs.lemmas.Grind.{common_steps}
 use Rattle.indexmap.specs.IndexMap.{IndexMap, get}
@@ -41,7 +41,7 @@ joined v w i b u t =
     ∙ (ap (λ x. record v { importance = w.importance; bank = w.bank; user = x }) u
     ∙ ap (λ x. record w { test = x }) t))
 
-same_eq : (v w : Numbers) → same_numbers v w ≡ true → v ≡ w
+pub same_eq : (v w : Numbers) → same_numbers v w ≡ true → v ≡ w
 same_eq v w e =
     let e2 = second (same_option v.importance w.importance) _ e in
     let e3 = second (same_option v.bank w.bank) _ e2 in
@@ -51,7 +51,7 @@ same_eq v w e =
     let t : v.test ≡ w.test = option_eq v.test w.test (second (same_option v.user w.user) _ e3) in
     joined v w i b u t
 
-same_refl : (v : Numbers) → same_numbers v v ≡ true
+pub same_refl : (v : Numbers) → same_numbers v v ≡ true
 same_refl v = rw (option_refl v.importance, option_refl v.bank, option_refl v.user, option_refl v.test) refl
 
 some_none : (n : ℕ) → Some n ≡ None → ⊥

@@ -1,5 +1,5 @@
 -- How often each item is in a list, without the order.
-use Rattle.std.specs.Prelude.{◌≡◌, ℕ, ◌+◌, ◌<◌, Bool, if◌then◌else◌, List, [], ◌∷◌, Option, Some}
+use Rattle.std.specs.Prelude.{◌≡◌, ℕ, ◌+◌, ◌<◌, Bool, if◌then◌else◌, List, [], ◌∷◌, Some}
 use Rattle.std.specs.List.{list_any, count_by}
 use Rattle.std.specs.Map.{count_at}
 use Rattle.indexmap.specs.IndexMap.{IndexMap, get, index_map_len}
@@ -14,3 +14,7 @@ pub record Counts {A S : Type 0} (eq : A → A → Bool) (counts : IndexMap A �
   pub times : (x : A) → count_at (get eq counts) x ≡ count_by (eq x) xs
   pub some : (x : A) (n : ℕ) → get eq counts x ≡ Some n → 0 < n
   pub many : index_map_len counts ≡ different_by eq xs
+
+-- a list has each of these items once, and no other
+abbrev pub HasEachOnce : {A : Type 0} → (A → A → Bool) → List A → List A → Type 0
+HasEachOnce {A} eq each xs = (x : A) → count_by (eq x) each ≡ (if list_any (eq x) xs then 1 else 0)

@@ -1,8 +1,6 @@
 -- Which live value has what content, and whether it is held, by numbers.
-use Rattle.std.specs.Prelude.{ℕ, Bool, false, ◌==◌, nat_eq, nat_lt, ◌||◌, if◌then◌else◌, List, [], ◌∷◌, ◌++◌, Option, Some, None}
+use Rattle.std.specs.Prelude.{ℕ, Bool, ◌==◌, nat_eq, nat_lt, if◌then◌else◌, List, [], ◌∷◌, ◌++◌, Option, Some, None}
 use Rattle.std.specs.List.{list_any, flat_map}
-use Rattle.vch_base.specs.declared.key.Key.{Key}
-use Rattle.vch_base.specs.Keys.{key_numbered}
 use Rattle.vch_base.specs.declared.value.Value.{Value}
 use Rattle.vch_model.specs.declared.entry.Entry.{Entry}
 use Rattle.vch_model.specs.Store.{is_alive}
@@ -10,9 +8,9 @@ use Rattle.vch_books.specs.declared.numbers.Numbers.{Numbers}
 use Rattle.vch_books.specs.declared.rows.Named.{Named}
 use Rattle.vch_books.specs.declared.rows.Message.{Message}
 use Rattle.vch_books.specs.declared.holders.Holders.{Holders}
-use Rattle.vch_books.specs.Counts.{Counts, different_by}
-use Rattle.vch_books.specs.Desks.{Desk, same_option, same_numbers}
-use Rattle.vch_books.specs.Numbered.{at_key, entry_at, key_made, alive_of}
+use Rattle.vch_books.specs.Counts.{Counts, HasEachOnce, different_by}
+use Rattle.vch_books.specs.Desks.{Desk, same_numbers}
+use Rattle.vch_books.specs.Numbered.{alive_of}
 
 -- the number of a live value
 abbrev pub number_with : List Entry → List ℕ → ℕ → Value → Option ℕ
@@ -48,10 +46,12 @@ number_list (Some n) = if nat_lt 0 n then n ∷ [] else []
 abbrev pub numbers_in : Numbers → List ℕ
 numbers_in v = number_list v.importance ++ (number_list v.bank ++ (number_list v.user ++ number_list v.test))
 
--- the counts are those of a list of vouchers, and of the numbers in it
+-- the counts are those of a list of vouchers, and of the numbers in them where each voucher is taken once
 pub record AreHeld (holders : Holders) (vs : List Numbers) : Type 0 where
   pub vouchers : Counts same_numbers holders.vouchers.counts vs
-  pub numbers : Counts nat_eq holders.numbers.counts (flat_map numbers_in vs)
+  pub each : List Numbers
+  pub once : HasEachOnce same_numbers each vs
+  pub numbers : Counts nat_eq holders.numbers.counts (flat_map numbers_in each)
 
 -- the numbers of all vouchers that tasks have
 abbrev pub held_numbers : List Desk → List ℕ

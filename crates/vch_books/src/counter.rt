@@ -1,5 +1,4 @@
-ghost use Rattle.std.specs.Prelude.{◌≡◌, ◌++◌, ◌∷◌, [], List, is_some, OnOk};
-ghost use Rattle.std.specs.Map.{count_at};
+ghost use Rattle.std.specs.Prelude.{◌≡◌, ◌++◌, ◌∷◌, [], List, is_some, not, IfOk, OnOk};
 ghost use Rattle.indexmap.specs.IndexMap.{get, index_map_len};
 ghost use Rattle.vch_books.specs.Counts.{Counts};
 
@@ -39,36 +38,32 @@ impl<T: Eq + Hash + Copy + Drop> Counter<T> {
         self.counts.get(item).is_some()
     }
 
-    /// How often an item is there.
-    fn count(&self, item: &T) -> u64
-        ensures { result ≡ count_at (get T.eq self.now.counts) item.now }
+    /// An item comes, somewhere in the list. Returns whether it was not there before. Expected amortised constant time. The one error
+    /// is out of memory.
+    pub fn add(&mut self, item: T) -> Result<bool, NoMemory>
+        ensures counted { (front back : List T) → Counts T.eq self.old.counts (front ++ back) → OnOk result (Counts T.eq self.new.counts (front ++ item ∷ back)) }
+        ensures first { IfOk result (λ first. first ≡ not (is_some (get T.eq self.old.counts item))) }
     {
-        match self.counts.get(item) {
-            Some(count) => *count,
-            None => 0,
+        if let Some(count) = self.counts.get_mut(&item) {
+            *count = after(*count)?;
+            return Ok(false);
         }
+        self.counts.insert(item, 1)?;
+        Ok(true)
     }
 
-    /// An item comes, somewhere in the list. Expected amortised constant time. The one error is out of memory.
-    pub fn add(&mut self, item: T) -> Result<(), NoMemory>
-        ensures { (front back : List T) → Counts T.eq self.old.counts (front ++ back) → OnOk result (Counts T.eq self.new.counts (front ++ item ∷ back)) }
+    /// An item goes. Returns whether it is there no more. Expected constant time; it takes no memory.
+    pub fn remove(&mut self, item: &T) -> bool
+        ensures counted { (front back : List T) → Counts T.eq self.old.counts (front ++ item.now ∷ back) → Counts T.eq self.new.counts (front ++ back) }
+        ensures last { result ≡ not (is_some (get T.eq self.new.counts item.now)) }
     {
-        let count = after(self.count(&item))?;
-        self.counts.insert(item, count)?;
-        Ok(())
-    }
-
-    /// An item goes. Expected constant time; it takes no memory.
-    pub fn remove(&mut self, item: &T)
-        ensures { (front back : List T) → Counts T.eq self.old.counts (front ++ item.now ∷ back) → Counts T.eq self.new.counts (front ++ back) }
-    {
-        let count = self.count(item);
-        if count <= 1 {
-            self.counts.swap_remove(item);
-            return;
+        if let Some(count) = self.counts.get_mut(item) {
+            if *count > 1 {
+                *count -= 1;
+                return false;
+            }
         }
-        if let Some(left) = self.counts.get_mut(item) {
-            *left = count - 1;
-        }
+        self.counts.swap_remove(item);
+        true
     }
 }

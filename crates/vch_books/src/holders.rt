@@ -9,7 +9,8 @@ use crate::counter::Counter;
 use std::alloc::Global;
 use vch_base::NoMemory;
 
-/// How many names and messages have each voucher, and how many have each number of a value other than Default.
+/// How many names and messages have each voucher, and how many of these vouchers, each taken once, have each number of a value other
+/// than Default. So a voucher's numbers are looked up only where it comes first or goes last.
 #[derive(Drop)]
 pub struct Holders {
     vouchers: Counter<Numbers>,
@@ -21,7 +22,10 @@ fn add_number(numbers: &mut Counter<u32>, number: Option<u32>) -> Result<(), NoM
     ensures { (front back : List ℕ) → Counts nat_eq numbers.old.counts (front ++ back) → OnOk result (Counts nat_eq numbers.new.counts (front ++ (number_list number ++ back))) }
 {
     match number {
-        Some(number) if number > 0 => numbers.add(number),
+        Some(number) if number > 0 => {
+            numbers.add(number)?;
+            Ok(())
+        }
         _ => Ok(()),
     }
 }
@@ -93,15 +97,18 @@ impl Holders {
     pub fn add(&mut self, voucher: Numbers) -> Result<(), NoMemory>
         ensures { (front back : List Numbers) → AreHeld self.old (front ++ back) → OnOk result (AreHeld self.new (front ++ voucher ∷ back)) }
     {
-        self.vouchers.add(voucher)?;
-        add_numbers(&mut self.numbers, &voucher)
+        if self.vouchers.add(voucher)? {
+            add_numbers(&mut self.numbers, &voucher)?;
+        }
+        Ok(())
     }
 
     /// A name or a message with a voucher goes. Expected constant time; it takes no memory.
     pub fn remove(&mut self, voucher: Numbers)
         ensures { (front back : List Numbers) → AreHeld self.old (front ++ voucher ∷ back) → AreHeld self.new (front ++ back) }
     {
-        self.vouchers.remove(&voucher);
-        remove_numbers(&mut self.numbers, &voucher);
+        if self.vouchers.remove(&voucher) {
+            remove_numbers(&mut self.numbers, &voucher);
+        }
     }
 }

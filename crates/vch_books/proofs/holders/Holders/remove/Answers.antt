@@ -1,18 +1,13 @@
-use Rattle.std.proofs.Common.{ℕ, List, ◌++◌, ◌∷◌, sym, subst}
-use Rattle.std.specs.Prelude.{nat_eq}
-use Rattle.std.specs.List.{flat_map}
-use Rattle.std.proofs.lemmas.Grind.{flat_map-append}
-use Rattle.vch_books.specs.Counts.{Counts}
-use Rattle.vch_books.specs.Holding.{numbers_in}
-use Rattle.vch_books.proofs.Holdings.{with_voucher}
+use Rattle.std.proofs.Common.{refl}
+use Rattle.vch_books.proofs.HeldNumbers.{last_goes, one_goes}
 use Rattle.vch_books.proofs.holders.Holders.remove.Goals as goal
 
-pub returns : goal.returns
-returns c = λ front back k.
-    let v = c.args.voucher in
-    record {
-      vouchers = c.remove.ensures front back k.vouchers;
-      numbers = subst (λ (l : List ℕ). Counts nat_eq c.remove_numbers.new.numbers.counts l) (sym (flat_map-append numbers_in front back))
-          (c.remove_numbers.ensures (flat_map numbers_in front) (flat_map numbers_in back)
-          (subst (λ (l : List ℕ). Counts nat_eq c.args.self.now.numbers.counts l) (with_voucher front back v) k.numbers));
-    }
+pub returns-then-remove : goal.returns-then-remove
+returns-then-remove c = λ front back k.
+    last_goes c.args.self.now (record { vouchers = c.remove.new.self; numbers = c.remove_numbers.new.numbers }) front back c.args.voucher c.remove.result k
+    c.remove.ensures.last c.if-remove.true (c.remove.ensures.counted front back k.vouchers) (λ xs ys n. c.remove_numbers.ensures xs ys n)
+
+pub returns-else-remove : goal.returns-else-remove
+returns-else-remove c = λ front back k.
+    one_goes c.args.self.now (record { vouchers = c.remove.new.self; numbers = c.args.self.now.numbers }) front back c.args.voucher c.remove.result k
+    c.remove.ensures.last c.if-remove.false (c.remove.ensures.counted front back k.vouchers) refl
