@@ -86,6 +86,80 @@ const ROWS: &[Row] = &[
         order: &[1, 1, 1, 1, 1, 1, 1, 2, 2, 1, 2, 1, 2, 2, 1, 1],
         report: "report 2\nmade 7 user 6162\ncall 1 1 create 0 1\ncall 1 2 send 0\nlost 2\ncall 1 3 create 0 2\ncall 2 1 exit 0\nphase\ntask 1 ledger 0 held 0 out 0\ntask 2 ledger 0 held 0 out 0\nvouchers 1 values 2\nend\n",
     },
+    // A value is made for another task between the two records of a create, and the replaced one is asked for once more.
+    Row {
+        scenario: b"vouch 1\ntasks 3\ntask 1\ntask 2\ntask 3\nphase\n1 create 07000000d30000000000000002000000616207000000d300000000000000020000006364\n2 create 07000000d300000000000000020000006364\n3 create 07000000d300000000000000020000006162\nend\n",
+        order: &[1, 1, 1, 2, 2, 1, 1, 3, 3, 1, 3, 1, 1, 1, 2, 2, 2, 3],
+        report: "report 1\nmade 7 user 6162\nmade 7 user 6364\ncall 1 1 create 0 1\ncall 2 1 create 0 1\ncall 3 1 create 0 1\nphase\ntask 1 ledger 0 held 0 out 0\ntask 2 ledger 0 held 0 out 0\ntask 3 ledger 0 held 0 out 0\nvouchers 2 values 3\nend\n",
+    },
+    // Reads and drops of two tasks stand between the first Make of a create and its Place.
+    Row {
+        scenario: b"vouch 1\ntasks 3\ntask 1\ntask 2\ntask 3\nphase\n2 create 02000000c8000000000000000000000007000000d300000000000000020000006162\n3 create 02000000c8000000000000000000000007000000d300000000000000020000006162\n1 create 07000000d30000000000000002000000616202000000c80000000000000000000000\n2 extract 1 7\n3 recipes 1\n2 drop 1\n3 drop 1\n1 extract 1 7\n1 recipes 1\nend\n",
+        order: &[
+            2, 2, 2, 2, 2, 2, 3, 3, 3, 3, 3, 3, 1, 1, 2, 3, 2, 1, 3, 2, 2, 1, 2, 1, 2, 1,
+        ],
+        report: "report 1\nmade 2 list 2\nmade 7 user 6162\ncall 2 1 create 0 1\nmade 2 list 3\ncall 3 1 create 0 1\ncall 2 2 extract 0 6162\ncall 3 2 recipes 0 whole 02000000c8000000000000000000000007000000d300000000000000020000006162\ncall 2 3 drop 0\ncall 3 3 drop 0\nreleased 1\nmade 2 list 1\ncall 1 1 create 0 1\nreleased 4\ncall 1 2 extract 0 6162\ncall 1 3 recipes 0 whole 02000000c8000000000000000000000007000000d300000000000000020000006162\nphase\ntask 1 ledger 0 held 0 out 0\ntask 2 ledger 0 held 0 out 0\ntask 3 ledger 0 held 0 out 0\nvouchers 1 values 3\nend\n",
+    },
+    // And between the Make of a receive and its Place, while the message still holds its voucher.
+    Row {
+        scenario: b"vouch 1\ntasks 3\ntask 1\ntask 2\ntask 3\nphase\n1 create 0300000062020000000000000000000007000000d300000000000000020000006162\n1 send 2 copy 1 7\n2 recv\n1 extract 1 3\n3 live\n1 recipes 1\nend\n",
+        order: &[1, 1, 1, 1, 1, 1, 1, 1, 1, 1, 1, 2, 2, 1, 3, 2, 1, 2, 2],
+        report: "report 1\nmade 7 user 6162\ncall 1 1 create 0 1\nmade 3 task 1\ncall 1 2 send 0\nmade 3 account 1 2\ncall 1 3 extract 0 -\ncall 3 1 live 0 2 4\ncall 1 4 recipes 0 whole 0300000062020000000000000000000007000000d300000000000000020000006162\ncall 2 1 recv 0 1 7 1\nreleased 3\nphase\ntask 1 ledger 0 held 0 out 0\ntask 2 ledger 0 held 0 out 0\ntask 3 ledger 0 held 0 out 0\nvouchers 2 values 3\nend\n",
+    },
+    // The service looks at what is live before the client's message is placed.
+    Row {
+        scenario: b"vouch 1\ntasks 2\ntask 1 donor\ntask 2 receiver\nphase\n1 create 0300000062020000000000000000000002000000c8000000000000000000000007000000d300000000000000020000006162\n1 send 2 copy 1 9\n1 drop 1\n2 live\n2 recv\n2 charge 1 1200\n2 assertions\n2 drop 1\nphase\n1 ledger\nend\n",
+        order: &[2, 1, 1, 1, 1, 1, 1, 1, 1, 1, 1, 1, 1, 1],
+        report: "report 1\ncall 2 1 live 0 0 1\nmade 2 list 1\nmade 7 user 6162\ncall 1 1 create 0 1\nmade 3 task 1\ncall 1 2 send 0\ncall 1 3 drop 0\nmade 2 list 1,2\nmade 3 account 1 2\ncall 2 2 recv 0 1 9 1\nreleased 2\nreleased 5\ncall 2 3 charge 0\ncall 2 4 assertions 0 1 0\ncall 2 5 drop 0\nreleased 8\nreleased 9\nreleased 3\nphase\ncall 1 4 ledger 0 1200\nphase\ntask 1 ledger 1200 held 0 out 0\ntask 2 ledger 0 held 0 out 0\nvouchers 0 values 1\nend\n",
+    },
+    // A task is held after its Begin until the other one did its Place.
+    Row {
+        scenario: b"vouch 1\ntasks 2\ntask 1\ntask 2\nphase\n1 create 07000000d300000000000000020000006162\n1 drop 1\n2 create 07000000d300000000000000020000006162\nend\n",
+        order: &[1, 2, 2, 2, 2],
+        report: "report 1\nmade 7 user 6162\ncall 2 1 create 0 1\ncall 1 1 create 0 1\ncall 1 2 drop 0\nphase\ntask 1 ledger 0 held 0 out 0\ntask 2 ledger 0 held 0 out 0\nvouchers 1 values 2\nend\n",
+    },
+    // Held after its Make.
+    Row {
+        scenario: b"vouch 1\ntasks 2\ntask 1\ntask 2\nphase\n1 create 07000000d300000000000000020000006162\n1 drop 1\n2 create 07000000d300000000000000020000006162\nend\n",
+        order: &[1, 1, 2, 2, 2, 2],
+        report: "report 1\nmade 7 user 6162\ncall 2 1 create 0 1\ncall 1 1 create 0 1\ncall 1 2 drop 0\nphase\ntask 1 ledger 0 held 0 out 0\ntask 2 ledger 0 held 0 out 0\nvouchers 1 values 2\nend\n",
+    },
+    // Held after its Refer.
+    Row {
+        scenario: b"vouch 1\ntasks 2\ntask 1\ntask 2\nphase\n1 create 07000000d300000000000000020000006162\n1 drop 1\n2 create 07000000d300000000000000020000006162\nend\n",
+        order: &[1, 1, 1, 2, 2, 2, 2],
+        report: "report 1\nmade 7 user 6162\ncall 2 1 create 0 1\ncall 1 1 create 0 1\ncall 1 2 drop 0\nphase\ntask 1 ledger 0 held 0 out 0\ntask 2 ledger 0 held 0 out 0\nvouchers 1 values 2\nend\n",
+    },
+    // Held after the Work of a record that does nothing.
+    Row {
+        scenario: b"vouch 1\ntasks 2\ntask 1\ntask 2\nphase\n1 create 0700000000000000000000000000000007000000d300000000000000020000006162\n1 drop 1\n2 create 07000000d300000000000000020000006162\nend\n",
+        order: &[1, 1, 2, 2, 2, 2],
+        report: "report 1\nmade 7 user 6162\ncall 2 1 create 0 1\ncall 1 1 create 0 1\ncall 1 2 drop 0\nphase\ntask 1 ledger 0 held 0 out 0\ntask 2 ledger 0 held 0 out 0\nvouchers 1 values 2\nend\n",
+    },
+    // Held after its Place.
+    Row {
+        scenario: b"vouch 1\ntasks 2\ntask 1\ntask 2\nphase\n1 create 07000000d300000000000000020000006162\n1 drop 1\n2 create 07000000d300000000000000020000006162\nend\n",
+        order: &[1, 1, 1, 1, 2, 2, 2, 2],
+        report: "report 1\nmade 7 user 6162\ncall 1 1 create 0 1\ncall 2 1 create 0 1\ncall 1 2 drop 0\nphase\ntask 1 ledger 0 held 0 out 0\ntask 2 ledger 0 held 0 out 0\nvouchers 1 values 2\nend\n",
+    },
+    // Held after its LetGo.
+    Row {
+        scenario: b"vouch 1\ntasks 2\ntask 1\ntask 2\nphase\n1 create 07000000d300000000000000020000006162\n1 drop 1\n2 create 07000000d300000000000000020000006162\nend\n",
+        order: &[1, 1, 1, 1, 1, 1, 2, 2, 2, 2],
+        report: "report 1\nmade 7 user 6162\ncall 1 1 create 0 1\ncall 1 2 drop 0\ncall 2 1 create 0 1\nphase\ntask 1 ledger 0 held 0 out 0\ntask 2 ledger 0 held 0 out 0\nvouchers 1 values 2\nend\n",
+    },
+    // Held after its Ask.
+    Row {
+        scenario: b"vouch 1\ntasks 2\ntask 1\ntask 2\nphase\n1 create 07000000d300000000000000020000006162\n1 drop 1\n2 create 07000000d300000000000000020000006162\nend\n",
+        order: &[1, 1, 1, 1, 1, 1, 1, 2, 2, 2, 2],
+        report: "report 1\nmade 7 user 6162\ncall 1 1 create 0 1\ncall 1 2 drop 0\nreleased 1\nmade 7 user 6162\ncall 2 1 create 0 1\nphase\ntask 1 ledger 0 held 0 out 0\ntask 2 ledger 0 held 0 out 0\nvouchers 1 values 2\nend\n",
+    },
+    // Held after its Recheck.
+    Row {
+        scenario: b"vouch 1\ntasks 2\ntask 1\ntask 2\nphase\n1 create 07000000d300000000000000020000006162\n1 drop 1\n2 create 07000000d300000000000000020000006162\nend\n",
+        order: &[1, 1, 1, 1, 1, 1, 1, 1, 2, 2, 2, 2],
+        report: "report 1\nmade 7 user 6162\ncall 1 1 create 0 1\ncall 1 2 drop 0\nreleased 1\nmade 7 user 6162\ncall 2 1 create 0 1\nphase\ntask 1 ledger 0 held 0 out 0\ntask 2 ledger 0 held 0 out 0\nvouchers 1 values 2\nend\n",
+    },
 ];
 
 /// The scenario of some bytes.
