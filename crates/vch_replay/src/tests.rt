@@ -1,5 +1,5 @@
+use crate::row_tests::words_of;
 use crate::{run_plain, run_steady};
-use std::alloc::Global;
 use std::test::Fail;
 use vch_base::{MemSink, MemSource, SteadySink, SteadySource};
 
@@ -11,13 +11,15 @@ struct Case {
     output: &'static str,
 }
 
-const STORE: &[u8] =
+/// One value is stored and released.
+pub const STORE: &[u8] =
     b"vouch 1\ntasks 1\ntask 1\nphase\n1 create 07000000d300000000000000020000006162\n1 drop 1\nend\n";
 
 const CANONICAL: &str =
     "vouch 1\ntasks 1\ntask 1\nphase\n1 create 07000000d300000000000000020000006162\n1 drop 1\nend\n";
 
-const STORED: &str =
+/// The report of that run.
+pub const STORED: &str =
     "report 1\nmade 7 user 6162\ncall 1 1 create 0 1\ncall 1 2 drop 0\nreleased 1\nphase\ntask 1 ledger 0 held 0 out 0\nvouchers 0 values 1\nend\n";
 
 const CASES: &[Case] = &[
@@ -353,15 +355,6 @@ const CASES: &[Case] = &[
     },
 ];
 
-/// The words as the top call takes them.
-fn words_of(alloc: Global, words: &[&str]) -> Result<Vec<String>, Fail> {
-    let mut owned = Vec::new(alloc);
-    for word in words {
-        owned.push(String::from_str(alloc, word)?)?;
-    }
-    Ok(owned)
-}
-
 #[test]
 fn worked_runs(rt: HostRuntime) -> Result<(), Fail> {
     let alloc = rt.alloc();
@@ -394,84 +387,5 @@ fn failing_ends(rt: HostRuntime) -> Result<(), Fail> {
         4
     );
     assert_eq!(rt; sink.written(), b"report 1\nm".as_slice());
-    Ok(())
-}
-
-/// So many line feeds, read in pieces.
-fn status_of_line_feeds(alloc: Global, count: usize, sink: &mut SteadySink) -> Result<u8, Fail> {
-    let words = words_of(alloc, &["check"])?;
-    let mut source = MemSource::new(vec![in alloc; b'\n'; count]?, Vec::new(alloc), 4000);
-    Ok(run_plain(alloc, words.as_slice(), &mut source, sink))
-}
-
-#[test]
-fn the_most_bytes(rt: HostRuntime) -> Result<(), Fail> {
-    let alloc = rt.alloc();
-    let mut sink = SteadySink::new(alloc, 1000)?;
-    assert_eq!(rt; status_of_line_feeds(alloc, 4194304, &mut sink)?, 2);
-    assert_eq!(rt;
-        sink.written(),
-        b"fault line 4194305 why ending\n".as_slice()
-    );
-    let mut sink = SteadySink::new(alloc, 1000)?;
-    assert_eq!(rt; status_of_line_feeds(alloc, 4194305, &mut sink)?, 6);
-    assert!(rt; sink.written().is_empty());
-    Ok(())
-}
-
-#[test]
-fn an_array_of_one_byte_too_many(rt: HostRuntime) -> Result<(), Fail> {
-    let alloc = rt.alloc();
-    let words = words_of(alloc, &["recipe"])?;
-    let mut source = SteadySource::new(vec![in alloc; 0u8; 5121]?);
-    let mut sink = SteadySink::new(alloc, 1000)?;
-    assert_eq!(rt;
-        run_steady(alloc, words.as_slice(), &mut source, &mut sink),
-        2
-    );
-    assert_eq!(rt; sink.written(), b"fault size 5121\n".as_slice());
-    Ok(())
-}
-
-/// A scenario of one create, of a header and so many digits 0.
-fn wide_create(alloc: Global, header: &str, digits: usize) -> Result<Vec<u8>, Fail> {
-    let mut text = Vec::from_slice(alloc, b"vouch 1\ntasks 1\ntask 1\nphase\n1 create ")?;
-    text.extend_from_slice(header.as_bytes())?;
-    for _digit in 0..digits {
-        text.push(b'0')?;
-    }
-    text.extend_from_slice(b"\nend\n")?;
-    Ok(text)
-}
-
-#[test]
-fn the_largest_array(rt: HostRuntime) -> Result<(), Fail> {
-    let alloc = rt.alloc();
-    let words = words_of(alloc, &["play"])?;
-    let header = "07000000d300000000000000f0130000";
-    let mut source = SteadySource::new(wide_create(alloc, header, 10208)?);
-    let mut sink = SteadySink::new(alloc, 20000)?;
-    assert_eq!(rt;
-        run_steady(alloc, words.as_slice(), &mut source, &mut sink),
-        0
-    );
-    let mut report = Vec::from_slice(alloc, b"report 1\nmade 7 user ")?;
-    for _digit in 0..10208 {
-        report.push(b'0')?;
-    }
-    report.extend_from_slice(
-        b"\ncall 1 1 create 0 1\nphase\ntask 1 ledger 0 held 0 out 0\nvouchers 1 values 2\nend\n",
-    )?;
-    assert!(rt; sink.written() == report.as_slice());
-    let mut source = SteadySource::new(wide_create(alloc, header, 10210)?);
-    let mut sink = SteadySink::new(alloc, 1000)?;
-    assert_eq!(rt;
-        run_steady(alloc, words.as_slice(), &mut source, &mut sink),
-        0
-    );
-    assert_eq!(rt;
-        sink.written(),
-        b"report 1\ncall 1 1 create -307\nphase\ntask 1 ledger 0 held 0 out 0\nvouchers 0 values 1\nend\n".as_slice()
-    );
     Ok(())
 }
