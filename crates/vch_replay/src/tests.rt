@@ -1,7 +1,7 @@
 use crate::row_tests::words_of;
-use crate::{run_plain, run_steady};
+use crate::run_steady;
 use std::test::Fail;
-use vch_base::{MemSink, MemSource, SteadySink, SteadySource};
+use vch_base::{SteadySink, SteadySource};
 
 /// Words, input, and what they must come to.
 struct Case {
@@ -366,26 +366,5 @@ fn worked_runs(rt: HostRuntime) -> Result<(), Fail> {
         assert_eq!(rt; status, case.status);
         assert_eq!(rt; sink.written(), case.output.as_bytes());
     }
-    Ok(())
-}
-
-#[test]
-fn failing_ends(rt: HostRuntime) -> Result<(), Fail> {
-    let alloc = rt.alloc();
-    let words = words_of(alloc, &["play"])?;
-    let mut source = MemSource::new(Vec::from_slice(alloc, STORE)?, vec![in alloc; 2u64]?, 8);
-    let mut sink = MemSink::new(alloc, Vec::new(alloc), 10, 1000)?;
-    assert_eq!(rt;
-        run_plain(alloc, words.as_slice(), &mut source, &mut sink),
-        3
-    );
-    assert!(rt; sink.written().is_empty());
-    let mut source = MemSource::new(Vec::from_slice(alloc, STORE)?, Vec::new(alloc), 8);
-    let mut sink = MemSink::new(alloc, vec![in alloc; 2u64]?, 10, 1000)?;
-    assert_eq!(rt;
-        run_plain(alloc, words.as_slice(), &mut source, &mut sink),
-        4
-    );
-    assert_eq!(rt; sink.written(), b"report 1\nm".as_slice());
     Ok(())
 }
