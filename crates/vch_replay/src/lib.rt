@@ -35,6 +35,8 @@ mod load_tests;
 #[cfg(test)]
 mod order_tests;
 #[cfg(test)]
+mod refusal_tests;
+#[cfg(test)]
 mod row_tests;
 #[cfg(test)]
 mod tests;
