@@ -27,6 +27,8 @@ pub use run::run_plain;
 pub use steady::run_steady;
 
 #[cfg(test)]
+mod call_tests;
+#[cfg(test)]
 mod cut_tests;
 #[cfg(test)]
 mod large_tests;

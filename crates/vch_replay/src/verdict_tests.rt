@@ -1,13 +1,12 @@
 //! Reports that are judged: the client's and the service's, and changes of it.
+use crate::call_tests::RING;
+use crate::row_tests::{CLIENT, played, words_of};
 use crate::run_steady;
 use std::alloc::Global;
 use std::test::Fail;
 use vch_base::{SteadySink, SteadySource};
 
-const SCENARIO: &str =
-    "vouch 1\ntasks 2\ntask 1 donor\ntask 2 receiver\nphase\n1 create 0300000062020000000000000000000002000000c8000000000000000000000007000000d300000000000000020000006162\n1 send 2 copy 1 9\n1 drop 1\n2 recv\n2 charge 1 1200\n2 assertions\n2 drop 1\nphase\n1 ledger\nend\n";
-
-/// A report of the scenario, and what is said of it.
+/// A report of the client and the service, and what is said of it.
 struct Row {
     report: &'static str,
     status: u8,
@@ -83,25 +82,47 @@ const ROWS: &[Row] = &[
     },
 ];
 
-/// The words as the top call takes them.
-fn word_of(alloc: Global) -> Result<Vec<String>, Fail> {
-    let mut words = Vec::new(alloc);
-    words.push(String::from_str(alloc, "certify")?)?;
-    Ok(words)
-}
-
 #[test]
 fn worked_verdicts(rt: HostRuntime) -> Result<(), Fail> {
     let alloc = rt.alloc();
-    let words = word_of(alloc)?;
+    let words = words_of(alloc, &["certify"])?;
     for row in ROWS {
-        let mut input = Vec::from_slice(alloc, SCENARIO.as_bytes())?;
+        let mut input = Vec::from_slice(alloc, CLIENT.as_bytes())?;
         input.extend_from_slice(row.report.as_bytes())?;
         let mut source = SteadySource::new(input);
         let mut sink = SteadySink::new(alloc, 1000)?;
         let status = run_steady(alloc, words.as_slice(), &mut source, &mut sink);
         assert_eq!(rt; status, row.status);
         assert_eq!(rt; sink.written(), row.line.as_bytes());
+    }
+    Ok(())
+}
+
+/// What is said of the report of a scenario's run by a seed.
+fn verdict_of_seed(alloc: Global, scenario: &str, seed: &str) -> Result<SteadySink, Fail> {
+    let report = played(alloc, &["play", seed], scenario.as_bytes(), 8000)?;
+    let mut input = Vec::from_slice(alloc, scenario.as_bytes())?;
+    input.extend_from_slice(report.written())?;
+    played(alloc, &["certify"], input.as_slice(), 1000)
+}
+
+/// Scenarios, and the seeds of their schedules.
+const SEEDED: &[(&str, &str)] = &[
+    (CLIENT, "1"),
+    (CLIENT, "2"),
+    (CLIENT, "3"),
+    (RING, "1"),
+    (RING, "2"),
+    (RING, "3"),
+    (RING, "18446744073709551615"),
+];
+
+#[test]
+fn runs_by_seeds_are_whole(rt: HostRuntime) -> Result<(), Fail> {
+    let alloc = rt.alloc();
+    for (scenario, seed) in SEEDED {
+        let verdict = verdict_of_seed(alloc, scenario, seed)?;
+        assert_eq!(rt; verdict.written(), b"whole\n".as_slice(), "{seed}");
     }
     Ok(())
 }
