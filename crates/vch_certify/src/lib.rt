@@ -1,8 +1,8 @@
 //! A checker of reports: whether a report is one of a scenario, whoever made it.
 //!
-//! It takes the entries of the report's history one by one on plain lists, and asks of each whether it may come next: neither
-//! the core nor a manager is used, and no total of the report is trusted. A verdict is `Whole` exactly where the history is
-//! whole and the report is the one of it; else it carries the first flaw, in the order of [`Flaw`].
+//! It takes the entries of the report's history one by one into books of their own, and asks of each whether it may come next:
+//! neither the core nor a manager is used, and no total of the report is trusted. A verdict is `Whole` exactly where the history
+//! is whole and the report is the one of it; else it carries the first flaw, in the order of [`Flaw`].
 #![tactic(auto)]
 
 mod check;
