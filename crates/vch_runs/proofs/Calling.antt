@@ -1,6 +1,6 @@
 -- Which call the next event of a task begins or carries on.
-use Rattle.std.proofs.Common.{◌≡◌, ℕ, zero, suc, ◌+◌, ◌-◌, ◌<◌, ◌≤◌, Bool, true, false, inl, inr, List, [], ◌∷◌, refl, sym, ap, ◌∙◌, subst, drop, length, arith, Option, Some, None, IsTrue}
-use Rattle.std.specs.Prelude.{is_some, if◌then◌else◌, nat_lt, nat_le, slice_get}
+use Rattle.std.proofs.Common.{◌≡◌, ℕ, zero, suc, ◌+◌, ◌-◌, ◌<◌, ◌≤◌, Bool, true, false, inl, inr, List, [], ◌∷◌, refl, sym, ap, ◌∙◌, subst, drop, length, arith, Option, Some, None}
+use Rattle.std.specs.Prelude.{is_some, IsSome, if◌then◌else◌, nat_lt, nat_le, slice_get}
 use Rattle.std.proofs.lemmas.Grind.{common_steps}
 use Rattle.vch_base.specs.declared.key.Key.{Key}
 use Rattle.vch_base.specs.declared.kind.Kind.{Kind}
@@ -36,7 +36,7 @@ use Rattle.vch_parts.proofs.CallerLemmas.{next_agrees, twin_of, own_frame}
 use Rattle.vch_runs.specs.declared.said.Said.{Said}
 use Rattle.vch_runs.specs.declared.said.Said.TheVariants as sayings
 use Rattle.vch_runs.specs.Said.{Says, word_said}
-use Rattle.vch_runs.specs.Called.{HasNext, IsCallKind, IsOpenKind, IsWordOf}
+use Rattle.vch_runs.specs.Called.{HasNext, IsOpenKind, IsWordOf}
 use Rattle.vch_runs.proofs.Framed.{Reach, reach, from_state, next_of, own_begun}
 use Rattle.vch_runs.proofs.Starting.{few_filtered, few_until}
 
@@ -47,7 +47,7 @@ same_some a b e = cc
 
 create_word : (kind : Kind) → IsOpenKind kind → IsWordOf kind words.Create
 create_word kinds.Work h = inl refl
-create_word kinds.Make h = tt
+create_word kinds.Make h = inl (inl refl)
 create_word kinds.Place h = inl (inl refl)
 create_word kinds.Begin h = absurd h
 create_word kinds.Refer h = absurd h
@@ -69,7 +69,7 @@ record_open version names (First.ContentCut wanted left) = tt
 -- a send or a receive, where its keys are asked
 keys_open : (b : Bool) (word : Word) (kind : Kind) → IsWordOf kinds.Place word → (if b then Some kinds.Place else Some kinds.Make) ≡ Some kind → IsOpenKind kind × IsWordOf kind word
 keys_open true word kind h e = subst (λ k. IsOpenKind k × IsWordOf k word) (same_some kinds.Place kind e) (tt, h)
-keys_open false word kind h e = subst (λ k. IsOpenKind k × IsWordOf k word) (same_some kinds.Make kind e) (tt, tt)
+keys_open false word kind h e = subst (λ k. IsOpenKind k × IsWordOf k word) (same_some kinds.Make kind e) (tt, h)
 
 -- a call that forms nothing is an exit
 no_other : (sc : Scenario) (live : List Living) (x : Member) (t place : ℕ) (ks : List Key) (r : Option Place) (o : Option Handles) (call : Call)
@@ -100,15 +100,6 @@ pub record Opened (o : Option Call) (kind : Kind) : Type 0 where
   pub is : o ≡ Some call
   pub kind_is : IsOpenKind kind
   pub word_is : IsWordOf kind (word_of call)
-
-pub not_there : {o : Option Call} {kind : Kind} → Opened o kind → o ≡ None → ⊥
-not_there a e = let z = a.is in cc
-
-pub own_word : {o : Option Call} {kind : Kind} {call : Call} → Opened o kind → o ≡ Some call → IsWordOf kind (word_of call)
-own_word {o} {kind} {call} a e = subst (λ x. IsWordOf kind (word_of x)) (same a.call call (sym a.is ∙ e)) a.word_is
-  where
-    same : (x y : Call) → Some x ≡ Some y → x ≡ y
-    same x y e = cc
 
 same_call : (x y : Call) → Some x ≡ Some y → x ≡ y
 same_call x y e = cc
@@ -170,31 +161,14 @@ idle_kind : (o other : Option Kind) (kind : Kind) → o ≡ None → first_kind 
 idle_kind None other kind e h = h
 idle_kind (Some k) other kind e h = absurd (cc)
 
-pub open_at : (p : Parts) (t : ℕ) (kind : Kind) → Reached p → is_task p.scenario t ≡ true → value_kind (frame_of p.frames t) ≡ None → IsNext p t (Some kind) → IsOpenKind kind → Opened (nth_call p.scenario t (begun_of p.frames t)) kind
-open_at p t kind r task idle next carries = by (frame_of p.frames t) refl idle (told p t (Some kind) r task next)
+pub opened_at : (p : Parts) (t : ℕ) (kind : Kind) → Reached p → is_task p.scenario t ≡ true → IsSome (frame_of p.frames t) → value_kind (frame_of p.frames t) ≡ None → IsNext p t (Some kind)
+    → Opened (nth_call p.scenario t (begun_of p.frames t)) kind
+opened_at p t kind r task under idle next = by (frame_of p.frames t) refl under idle (told p t (Some kind) r task next)
   where
-    by : (o : Option Frame) → frame_of p.frames t ≡ o → value_kind o ≡ None → task_kind p.scenario (desk p.vouchers t).names t p.phase (begun_of p.frames t) o ≡ Some kind
+    by : (o : Option Frame) → frame_of p.frames t ≡ o → IsSome o → value_kind o ≡ None → task_kind p.scenario (desk p.vouchers t).names t p.phase (begun_of p.frames t) o ≡ Some kind
         → Opened (nth_call p.scenario t (begun_of p.frames t)) kind
-    by None own i e = absurd (subst IsOpenKind (sym (begins _ kind e).1) carries)
-    by (Some f) own i e = opened p t f kind r task own (idle_kind (value_kind (Some f)) _ kind i e)
-
-open_call : (kind : Kind) → IsOpenKind kind → IsCallKind kind
-open_call kinds.Work h = tt
-open_call kinds.Make h = tt
-open_call kinds.Place h = tt
-open_call kinds.Begin h = tt
-open_call kinds.Refer h = absurd h
-open_call kinds.LetGo h = absurd h
-open_call kinds.Ask h = absurd h
-open_call kinds.Recheck h = absurd h
-open_call kinds.Phase h = absurd h
-
-pub kind_of_call : (p : Parts) (t : ℕ) (kind : Kind) → Reached p → is_task p.scenario t ≡ true → value_kind (frame_of p.frames t) ≡ None → IsNext p t (Some kind) → IsCallKind kind
-kind_of_call p t kind r task idle next = by (frame_of p.frames t) refl idle (told p t (Some kind) r task next)
-  where
-    by : (o : Option Frame) → frame_of p.frames t ≡ o → value_kind o ≡ None → task_kind p.scenario (desk p.vouchers t).names t p.phase (begun_of p.frames t) o ≡ Some kind → IsCallKind kind
-    by None own i e = subst IsCallKind (begins _ kind e).1 tt
-    by (Some f) own i e = open_call kind (opened p t f kind r task own (idle_kind (value_kind (Some f)) _ kind i e)).kind_is
+    by None own s i e = absurd (cc)
+    by (Some f) own s i e = opened p t f kind r task own (idle_kind (value_kind (Some f)) _ kind i e)
 
 pub none_next : (p : Parts) (t : ℕ) → Reached p → HasNext p t → IsNext p t None → ⊥
 unfolding HasNext

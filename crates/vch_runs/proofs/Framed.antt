@@ -1,5 +1,5 @@
 -- What a reached core tells of a task: that a frame has a next event.
-use Rattle.std.proofs.Common.{◌≡◌, ℕ, ◌<◌, ◌≤◌, Bool, true, false, refl, sym, ap, ◌∙◌, arith, subst, Option, Some, None, IsTrue}
+use Rattle.std.proofs.Common.{◌≡◌, ℕ, ◌<◌, ◌≤◌, Bool, true, false, refl, sym, ◌∙◌, arith, subst, Option, Some, None, IsTrue}
 use Rattle.std.specs.Prelude.{is_some, IsSome, ◌↔◌, nat_lt}
 use Rattle.std.proofs.lemmas.Grind.{common_steps}
 use Rattle.vch_base.specs.declared.kind.Kind.{Kind}

@@ -17,3 +17,4 @@ pub mod Drawing
 pub mod Keeping
 pub mod Driving
 pub mod Calling
+pub mod OwnCalls

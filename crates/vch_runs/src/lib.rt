@@ -28,6 +28,9 @@
 #![tactic(auto)]
 
 mod calls;
+mod carrying;
+mod creating;
+mod current;
 mod ends;
 mod events;
 mod order;
@@ -36,6 +39,8 @@ mod seed;
 mod stepped;
 mod turn;
 
+pub use carrying::carry_event;
+pub use creating::create_event;
 pub use ends::finish;
 pub use events::event;
 pub use order::{are_tasks, drive};
